@@ -1,0 +1,4 @@
+mod Numbers
+mod Positions
+mod Scan
+mod Splitting

@@ -1,0 +1,12 @@
+//! Tokens: the words, numbers and marks of a text, line by line, each with its place in the text, or the first fault.
+//!
+//! `lines` answers exactly what the lexical definition gives, and its tokens are slices of the text in order.
+#![tactic(auto)]
+
+mod bytes;
+mod lexeme;
+mod split;
+mod token;
+
+pub use split::lines;
+pub use token::{LexError, Lexed, Line, Mark, Token, What};
