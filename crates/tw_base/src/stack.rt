@@ -1,4 +1,5 @@
-ghost use Rattle.std.specs.Prelude.{◌≡◌, [], ◌∷◌, ◌↔◌, IsTrue, MatchOption, OnOk, OnErr};
+ghost use Rattle.std.specs.Prelude.{◌≡◌, [], ◌∷◌, ◌↔◌, IsTrue, MatchOption, OnOk, OnErr, slice_get};
+ghost use Rattle.std.specs.Option.{option_copied};
 
 use crate::Memory;
 use std::alloc::Global;
@@ -28,6 +29,22 @@ impl<T> Stack<T> {
         Stack {
             items: Vec::new(alloc),
         }
+    }
+
+    /// The first item is the top.
+    pub fn of(items: Vec<T>) -> Self
+        ensures { result ≡ items.items }
+    {
+        let mut items = items;
+        items.reverse();
+        Stack { items }
+    }
+
+    /// The top, None where there is none.
+    pub fn top(&self) -> Option<&T>
+        ensures { option_copied result ≡ slice_get self.now 0 }
+    {
+        self.items.last()
     }
 
     pub fn is_empty(&self) -> bool

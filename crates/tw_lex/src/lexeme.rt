@@ -6,8 +6,8 @@ use crate::token::{Mark, What};
 use std::alloc::Global;
 use tw_base::{Memory, Name};
 
-/// The number that a run of digits stands for.
-fn number_of(run: &[u8]) -> Option<u64>
+/// The number that the bytes stand for: None where a byte is no digit or the value is not below 2^64. No digits are 0.
+pub fn number_of(run: &[u8]) -> Option<u64>
     ensures { result ≡ number_of run.now }
 {
     let mut value: u64 = 0;

@@ -8,5 +8,6 @@ mod lexeme;
 mod split;
 mod token;
 
+pub use lexeme::number_of;
 pub use split::lines;
 pub use token::{LexError, Lexed, Line, Mark, Token, What};
