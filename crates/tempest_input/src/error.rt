@@ -1,0 +1,56 @@
+ghost use Rattle.std.specs.Prelude.{◌≡◌};
+ghost use Rattle.tempest_input.specs.declared.error.InputError.TheVariants.{Memory as OutOfMemory};
+
+use std::alloc::{AllocError, AllocFailed};
+use tw_base::Memory;
+
+/// Why a text is refused.
+#[derive(Clone, Copy, Debug, PartialEq, Eq)]
+pub enum Why {
+    /// A byte that may stand only in a comment.
+    NotAscii,
+    BadToken,
+    /// A line of no form, or one that does not fit at its place.
+    BadLine,
+    /// A number outside of its limits.
+    OutOfRange,
+    /// A second start value of a word, or a second program of a node.
+    Repeated,
+    /// More instructions than a program may have.
+    TooLong,
+    LabelTwice,
+    NoLabel,
+    /// A text that is allowed and not served yet.
+    NotYet,
+}
+
+/// A text is refused at a line, from 1 on; or there is not enough memory.
+#[derive(Clone, Copy, Debug, PartialEq, Eq)]
+pub enum InputError {
+    Refused { line: u32, why: Why },
+    Memory,
+}
+
+impl From<Memory> for InputError {
+    ghost from_gives = { λ _ e. e ≡ OutOfMemory };
+
+    fn from(_: Memory) -> Self {
+        InputError::Memory
+    }
+}
+
+impl From<AllocError> for InputError {
+    ghost from_gives = { λ _ e. e ≡ OutOfMemory };
+
+    fn from(_: AllocError) -> Self {
+        InputError::Memory
+    }
+}
+
+impl<T: Drop> From<AllocFailed<T>> for InputError {
+    ghost from_gives = { λ _ e. e ≡ OutOfMemory };
+
+    fn from(_: AllocFailed<T>) -> Self {
+        InputError::Memory
+    }
+}

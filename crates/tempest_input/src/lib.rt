@@ -1,0 +1,10 @@
+//! The input text: its lines, its layout, its numbers and programs, and what it is refused for.
+#![tactic(auto)]
+
+mod error;
+mod head;
+mod layout;
+
+pub use error::{InputError, Why};
+pub use head::{Field, Head, Shipped, head_of};
+pub use layout::{Choice, Init, Layout, Numbered, Section, laid_out};
