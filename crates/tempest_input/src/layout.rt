@@ -16,7 +16,7 @@ pub struct Numbered {
 }
 
 /// The word at an address at the start.
-#[derive(Clone, Copy, Debug, PartialEq, Eq)]
+#[derive(Debug, Drop)]
 pub struct Init {
     pub line: u32,
     pub address: u64,

@@ -4,7 +4,9 @@
 mod error;
 mod head;
 mod layout;
+mod numbers;
 
 pub use error::{InputError, Why};
 pub use head::{Field, Head, Shipped, head_of};
 pub use layout::{Choice, Init, Layout, Numbered, Section, laid_out};
+pub use numbers::{nodes_of, shape_of, words_of};

@@ -1,0 +1,31 @@
+-- Reading one item after the other.
+use Rattle.std.proofs.Common.{◌≡◌, ℕ, ◌+◌, ◌<◌, ◌≤◌, List, [], ◌∷◌, ◌++◌, length, drop, Result, Ok, Err, refl, sym, ap, ◌∙◌, get_or}
+use Rattle.std.proofs.lemmas.List.{drop_all, drop_more}
+use Rattle.tw_base.specs.Answers.{◌>>=◌, Fails}
+use Rattle.tw_base.proofs.Answering.{Fails-is}
+use Rattle.tempest_input.specs.declared.error.InputError.{InputError}
+use Rattle.tempest_input.specs.Layout.{is_memory}
+use Rattle.tempest_input.specs.Numbers.{gathered}
+
+-- the next item of a list
+pub next-of : {X : Type 0} (items : List X) (i : ℕ) (x : X) → i < length items → x ≡ get_or items i x → drop i items ≡ x ∷ drop (i + 1) items
+next-of items i x lt is = drop_more items i x lt ∙ ap (λ z. z ∷ drop (i + 1) items) (sym is)
+
+module _ {X Y : Type 0} (step : List Y → X → Result Y InputError) (done now : List Y) (is : now ≡ done) (items : List X) (i : ℕ) (x : X) (next : drop i items ≡ x ∷ drop (i + 1) items) where
+  pub gathered-turn : (y : Y) (total : Result (List Y) InputError) → Ok y ≡ step now x → gathered step done (drop i items) ≡ total → gathered step (done ++ y ∷ []) (drop (i + 1) items) ≡ total
+  unfolding gathered
+  gathered-turn y total e so_far =
+      let one : gathered step done (drop i items) ≡ gathered step (done ++ y ∷ []) (drop (i + 1) items) = rw (next, ← is, ← e) refl in
+      sym one ∙ so_far
+
+  pub gathered-fault : (e : InputError) (total : Result (List Y) InputError) → Err e ≡ step now x → gathered step done (drop i items) ≡ total → Fails is_memory e total
+  unfolding gathered
+  gathered-fault e total f so_far =
+      let one : gathered step done (drop i items) ≡ Err e = rw (next, ← is, ← f) refl in
+      Fails-is is_memory e total (sym so_far ∙ one)
+
+pub gathered-end : {X Y : Type 0} (step : List Y → X → Result Y InputError) (done : List Y) (items : List X) (i : ℕ) (total : Result (List Y) InputError) → length items ≤ i → gathered step done (drop i items) ≡ total → total ≡ Ok done
+unfolding gathered
+gathered-end step done items i total le so_far =
+    let one : gathered step done (drop i items) ≡ Ok done = rw (drop_all i items le) refl in
+    sym so_far ∙ one
