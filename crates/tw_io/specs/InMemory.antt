@@ -1,5 +1,5 @@
 -- A source and a sink in memory, as their callers see them. Their calls are numbered from 1, and chosen ones fail.
-use Rattle.std.specs.Prelude.{ℕ, ◌+◌, ◌-◌, ◌^◌, ◌==◌, ◌||◌, min, nat_le, Bool, List, ◌++◌, length, take, drop, Result, Ok, Err}
+use Rattle.std.specs.Prelude.{ℕ, ◌+◌, ◌-◌, ◌^◌, ◌==◌, ◌||◌, min, Bool, List, ◌++◌, length, take, drop, Result, Ok, Err}
 use Rattle.std.specs.List.{list_any}
 
 -- The bytes still to come, how many come at most at a call, the numbers of the calls that fail, how many calls there
