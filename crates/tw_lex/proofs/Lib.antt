@@ -1,4 +1,6 @@
 mod Numbers
 mod Positions
 mod Scan
+mod Slices
+mod Spelled
 mod Splitting

@@ -96,7 +96,7 @@ regroup : (front : List Token) (t : Token) (rest : Option (List Token)) → with
 regroup front t None = refl
 regroup front t (Some ts) = ap Some (simp append_assoc)
 
-put : (b : ℕ) (bs : List ℕ) (at len : ℕ) (what : What) → is_blank b ≡ false → lexeme (b ∷ bs) ≡ Some (what, len) → 0 < len
+pub put : (b : ℕ) (bs : List ℕ) (at len : ℕ) (what : What) → is_blank b ≡ false → lexeme (b ∷ bs) ≡ Some (what, len) → 0 < len
     → tokens_from 0 at (b ∷ bs) ≡ option_map (λ ts. token_at at len what ∷ ts) (tokens_from 0 (at + len) (drop len (b ∷ bs)))
 unfolding tokens_from
 put b bs at zero what blank is some = absurd (omega arith)

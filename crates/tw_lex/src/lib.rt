@@ -4,10 +4,14 @@
 #![tactic(auto)]
 
 mod bytes;
+mod laws;
 mod lexeme;
 mod split;
+#[cfg(test)]
+mod tests;
 mod token;
 
+pub use laws::tokens_are_slices;
 pub use lexeme::number_of;
 pub use split::lines;
 pub use token::{LexError, Lexed, Line, Mark, Token, What};
