@@ -6,4 +6,4 @@ mod status;
 mod words;
 
 pub use status::Status;
-pub use words::Command;
+pub use words::{Command, asked};

@@ -1,6 +1,7 @@
-ghost use Rattle.std.specs.Prelude.{◌≡◌, ◌<◌, ◌^◌, map, length, take, drop, ◌++◌, None, if◌then◌else◌};
+ghost use Rattle.std.specs.Prelude.{◌≡◌, ◌++◌, map, position};
+ghost use Rattle.std.specs.List.{list_any};
 ghost use Rattle.std.specs.String.{string_bytes};
-ghost use Rattle.tempest_run.specs.Words.{is_option, positional, stride_of, two_words, command_of, asked};
+ghost use Rattle.tempest_run.specs.Words.{is_option, is_dashes, stride_of, two_words, command_of, command_split, asked};
 
 use tw_lex::number_of;
 
@@ -37,5 +38,58 @@ fn command_of(words: &[String]) -> Option<Command>
     match words {
         [command, number] => two_words(command.as_str(), number.as_str()),
         _ => None,
+    }
+}
+
+fn is_option(word: &str) -> bool
+    ensures { result ≡ is_option word.now }
+{
+    word.as_bytes().first() == Some(&b'-')
+}
+
+fn command_joined(before: &[String], after: &[String]) -> Option<Command>
+    ensures { result ≡ command_of (map string_bytes before.now ++ map string_bytes after.now) }
+{
+    match before {
+        [] => command_of(after),
+        [command] => match after {
+            [number] => two_words(command.as_str(), number.as_str()),
+            _ => None,
+        },
+        [command, number] if after.is_empty() => two_words(command.as_str(), number.as_str()),
+        _ => None,
+    }
+}
+
+fn has_option(words: &[String]) -> bool
+    ensures { result ≡ list_any (λ word. is_option (string_bytes word)) words.now }
+{
+    words.iter().any(|word| is_option(word.as_str()))
+}
+
+#[tactic(auto, using(crate::proofs::Splitting::list_any_of_map))]
+fn command_split(before: &[String], after: &[String]) -> Option<Command>
+    ensures { result ≡ command_split (map string_bytes before.now) (map string_bytes after.now) }
+{
+    if has_option(before) {
+        None
+    } else {
+        command_joined(before, after)
+    }
+}
+
+fn dashes(words: &[String]) -> Option<usize>
+    ensures { result ≡ position (λ word. is_dashes (string_bytes word)) words.now }
+{
+    words.iter().position(|word| word.as_str() == "--")
+}
+
+/// The command that the words ask for, None where they are none.
+pub fn asked(words: &[String]) -> Option<Command>
+    ensures { result ≡ asked (map string_bytes words.now) }
+{
+    match dashes(words) {
+        None => command_split(words, &[]),
+        Some(at) => command_split(&words[..at], &words[at + 1..]),
     }
 }
