@@ -5,8 +5,10 @@ mod error;
 mod head;
 mod layout;
 mod numbers;
+mod setup;
 
 pub use error::{InputError, Why};
 pub use head::{Field, Head, Shipped, head_of};
+pub use setup::Setup;
 pub use layout::{Choice, Init, Layout, Numbered, Section, laid_out};
 pub use numbers::{nodes_of, shape_of, words_of};
