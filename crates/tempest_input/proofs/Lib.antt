@@ -1,3 +1,5 @@
+mod Counting
 mod Fronts
 mod Gathering
+mod Valid
 mod Walking

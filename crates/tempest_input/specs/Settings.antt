@@ -1,6 +1,5 @@
 -- What a text sets up.
 use Rattle.std.specs.Prelude.{◌≡◌, ℕ, zero, suc, ◌*◌, ◌==◌, position, slice_get, unwrap_or, List, [], ◌∷◌, ◌++◌, length, Option, Some, None, Result, Ok, Err}
-use Rattle.std.specs.Option.{option_and_then}
 use Rattle.tw_base.specs.Answers.{◌>>=◌}
 use Rattle.tw_base.specs.Shape.{Sizes}
 use Rattle.tw_lex.specs.declared.token.Lexed.{Lexed}
@@ -53,9 +52,13 @@ program_in version done s = in_program (program_of version s.body)
 abbrev pub parsed : ℕ → List Section → Result (List (List Instr)) InputError
 parsed version sections = gathered (program_in version) [] sections
 
+abbrev pub program_at : List (List Instr) → Option ℕ → List Instr
+program_at programs None = Halt ∷ []
+program_at programs (Some k) = unwrap_or (slice_get programs k) (Halt ∷ [])
+
 -- a node's program is that of its section, and `halt` where it has none
-unfoldable pub program_for : List ℕ → List (List Instr) → ℕ → List Instr
-program_for nodes programs node = unwrap_or (option_and_then (λ k. slice_get programs k) (position (λ n. n == node) nodes)) (Halt ∷ [])
+abbrev pub program_for : List ℕ → List (List Instr) → ℕ → List Instr
+program_for nodes programs node = program_at programs (position (λ n. n == node) nodes)
 
 -- f 0, .., f (n - 1)
 abbrev pub each_below : {X : Type 0} → (ℕ → X) → ℕ → List X

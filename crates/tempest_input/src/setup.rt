@@ -1,6 +1,9 @@
-ghost use Rattle.std.specs.Prelude.{◌≡◌, ◌+◌, ◌*◌, ◌^◌, ◌<◌, ◌≤◌, length, IfOk};
+ghost use Rattle.std.specs.Prelude.{◌≡◌, ◌+◌, ◌^◌, ◌<◌, ◌≤◌, [], ◌∷◌, ◌==◌, length, position, IfOk};
 ghost use Rattle.tw_base.specs.Answers.{Gives};
+ghost use Rattle.tw_lex.specs.Lines.{lexed};
+ghost use Rattle.mini_asm.specs.Assembled.{program_of};
 ghost use Rattle.tempest_input.specs.Layout.{is_memory};
+ghost use Rattle.tempest_input.specs.Settings.{in_line, in_program, layout_of, parsed, program_at, program_for, each_below, settings_of};
 
 use crate::error::{InputError, Why};
 use crate::layout::{Choice, Layout, Section, laid_out};
@@ -69,4 +72,128 @@ impl Setup {
     {
         &self.protocol
     }
+}
+
+fn refused(line: u32, why: Why) -> InputError
+    ensures { result ≡ InputError.Refused line why }
+{
+    InputError::Refused { line, why }
+}
+
+fn lexed(alloc: Global, text: &[u8]) -> Result<Lexed, InputError>
+    requires { length text.now + 1 < 2 ^ 32 }
+    ensures value { Gives is_memory (λ found. found) result (in_line (lexed text.now)) }
+    ensures count { IfOk result (λ found. found.all ≤ length text.now + 1) }
+{
+    match lines(alloc, text) {
+        Ok(found) => Ok(found),
+        Err(LexError::NotAscii { line }) => Err(refused(line, Why::NotAscii)),
+        Err(LexError::BadToken { line }) => Err(refused(line, Why::BadToken)),
+        Err(LexError::Memory) => Err(InputError::Memory),
+    }
+}
+
+/// The lines of a text, laid out.
+#[tactic(auto, unfolding(crate::specs::Settings::layout_of))]
+pub fn layout_of(alloc: Global, text: &[u8]) -> Result<Layout, InputError>
+    requires { length text.now + 2 < 2 ^ 32 }
+    ensures { Gives is_memory (λ l. l) result (layout_of text.now) }
+{
+    let found = lexed(alloc, text)?;
+    laid_out(alloc, found.all, found.list)
+}
+
+fn program_in(alloc: Global, version: u8, section: &Section) -> Result<Program, InputError>
+    ensures { Gives is_memory (λ p. p) result (in_program (program_of version section.now.body)) }
+{
+    match parse_program(alloc, section.body.items(), version) {
+        Ok(program) => Ok(program),
+        Err(ProgramError::BadLine { line }) => Err(refused(line, Why::BadLine)),
+        Err(ProgramError::TooLong { line }) => Err(refused(line, Why::TooLong)),
+        Err(ProgramError::LabelTwice { line }) => Err(refused(line, Why::LabelTwice)),
+        Err(ProgramError::NoLabel { line }) => Err(refused(line, Why::NoLabel)),
+        Err(ProgramError::Memory) => Err(InputError::Memory),
+    }
+}
+
+fn parsed(alloc: Global, version: u8, sections: &[Section]) -> Result<Vec<Program>, InputError>
+    ensures { Gives is_memory (λ v. v.items) result (parsed version sections.now) }
+{
+    let mut done = Vec::new(alloc);
+    for section in sections {
+        done.push(program_in(alloc, version, section)?)?;
+    }
+    Ok(done)
+}
+
+fn halting(alloc: Global) -> Result<Program, Memory>
+    ensures { IfOk result (λ p. p ≡ Instr.Halt ∷ []) }
+{
+    let instrs = Listed::from_slice(alloc, &[Instr::Halt])?;
+    Ok(Program::of(instrs))
+}
+
+fn place_of(nodes: &[u8], node: u8) -> Option<usize>
+    ensures { result ≡ position (λ n. n == node) nodes.now }
+{
+    nodes.iter().position(|n| *n == node)
+}
+
+fn program_at(alloc: Global, programs: &[Program], place: Option<usize>) -> Result<Program, Memory>
+    ensures { IfOk result (λ p. p ≡ program_at programs.now place) }
+{
+    let Some(k) = place else {
+        return halting(alloc);
+    };
+    match programs.get(k) {
+        Some(program) => program.copied(alloc),
+        None => halting(alloc),
+    }
+}
+
+fn program_for(
+    alloc: Global,
+    nodes: &[u8],
+    programs: &[Program],
+    node: u8,
+) -> Result<Program, Memory>
+    ensures { IfOk result (λ p. p ≡ program_for nodes.now programs.now node) }
+{
+    program_at(alloc, programs, place_of(nodes, node))
+}
+
+// The program of each node.
+fn programs_by_node(
+    alloc: Global,
+    count: u8,
+    nodes: &[u8],
+    programs: &[Program],
+) -> Result<Vec<Program>, Memory>
+    ensures { IfOk result (λ v. v.items ≡ each_below (program_for nodes.now programs.now) count) }
+{
+    let mut by_node = Vec::new(alloc);
+    for node in 0..count {
+        by_node.push(program_for(alloc, nodes, programs, node)?)?;
+    }
+    Ok(by_node)
+}
+
+/// What a layout sets up, or its first fault.
+#[tactic(auto, unfolding(crate::specs::Settings::settings_of))]
+pub fn settings_of(alloc: Global, layout: Layout) -> Result<Setup, InputError>
+    ensures { Gives is_memory (λ s. s) result (settings_of layout) }
+{
+    let shape = shape_of(&layout)?;
+    let init = words_of(alloc, shape.size(), layout.inits.items())?;
+    let nodes = nodes_of(alloc, shape.nodes(), layout.programs.items())?;
+    let version = layout.version.value as u8;
+    let programs = parsed(alloc, version, layout.programs.items())?;
+    let programs = programs_by_node(alloc, shape.nodes(), &nodes, &programs)?;
+    Ok(Setup {
+        version,
+        shape,
+        init: Listed::of(init),
+        programs: Listed::of(programs),
+        protocol: layout.protocol,
+    })
 }
