@@ -1,3 +1,5 @@
+mod Faults
+mod LinesFound
 mod Numbers
 mod Positions
 mod Scan

@@ -10,8 +10,8 @@ use Rattle.tw_lex.specs.declared.token.What.{What}
 use Rattle.tw_lex.specs.declared.token.LexError.{LexError}
 use Rattle.tw_lex.specs.Bytes.{is_blank}
 use Rattle.tw_lex.specs.Lexemes.{lexeme}
-use Rattle.tw_lex.specs.Lines.{tokens_from, tokens_of, or_bad}
-use Rattle.tw_lex.specs.Laws.{IsSpelled, Ends, Stands, InOrder, TokensAreSlices}
+use Rattle.tw_lex.specs.Lines.{tokens_from, or_bad}
+use Rattle.tw_lex.specs.Laws.{IsSpelled, Ends, InOrder, TokensAreSlices}
 use Rattle.tw_lex.proofs.Scan.{lexeme-size, put, token_at}
 use Rattle.tw_lex.proofs.Spelled.{lexeme-spelled}
 

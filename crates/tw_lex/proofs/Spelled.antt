@@ -10,7 +10,7 @@ use Rattle.tw_lex.specs.declared.token.What.TheVariants.{Word, Number, Mark as A
 use Rattle.tw_lex.specs.declared.token.Mark.{Mark}
 use Rattle.tw_lex.specs.declared.token.Mark.TheVariants.{Open, Close, BraceOpen, BraceClose, Comma, Semicolon, Colon, Becomes, Plus, Minus, Equal, Unequal, Less, LessEqual, Both, Either}
 use Rattle.tw_lex.specs.Bytes.{is_digit, is_word_start, is_word_byte}
-use Rattle.tw_lex.specs.Lexemes.{lexeme, decimal_value, number_of, mark_at, or_single, single_mark, pair_mark, word_run, word_at, number_at}
+use Rattle.tw_lex.specs.Lexemes.{lexeme, decimal_value, mark_at, or_single, single_mark, pair_mark, word_run, word_at, number_at}
 use Rattle.tw_lex.specs.Laws.{spelling, IsSpelled, is_longer, extends, Ends}
 
 abbrev Good : List ℕ → Option (What × ℕ) → Type 0
@@ -74,11 +74,11 @@ front-one p true x xs n e rest =
     ap (λ k. list_all p (take k (x ∷ xs))) more ∙ and_from (p x) (list_all p (take n xs)) e rest
 front-one p false x xs n e rest = refl
 
-front-passes : (p : ℕ → Bool) (xs : List ℕ) → list_all p (take (prefix_len p xs) xs) ≡ true
+pub front-passes : (p : ℕ → Bool) (xs : List ℕ) → list_all p (take (prefix_len p xs) xs) ≡ true
 front-passes p [] = refl
 front-passes p (x ∷ xs) = front-one p (p x) x xs (prefix_len p xs) refl (front-passes p xs)
 
-abbrev Stops : (ℕ → Bool) → List ℕ → Type 0
+abbrev pub Stops : (ℕ → Bool) → List ℕ → Type 0
 Stops p [] = Unit {0}
 Stops p (x ∷ xs) = p x ≡ false
 
@@ -88,7 +88,7 @@ stops-one p true x xs n e rest =
     subst (λ k. Stops p (drop k (x ∷ xs))) (sym more) rest
 stops-one p false x xs n e rest = e
 
-front-stops : (p : ℕ → Bool) (xs : List ℕ) → Stops p (drop (prefix_len p xs) xs)
+pub front-stops : (p : ℕ → Bool) (xs : List ℕ) → Stops p (drop (prefix_len p xs) xs)
 front-stops p [] = tt
 front-stops p (x ∷ xs) = stops-one p (p x) x xs (prefix_len p xs) refl (front-stops p xs)
 

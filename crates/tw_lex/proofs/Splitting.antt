@@ -56,7 +56,7 @@ regroup front number ts (Err e) = refl
 
 -- what is left of a text from a place on
 module _ (text : List ℕ) (start : ℕ) (some : start < length text) where
-  lines_of-rest : lines_of (drop start text) ≡ first_line (drop start text) ∷ lines_of (drop (start + first_len (drop start text) + 1) text)
+  pub lines_of-rest : lines_of (drop start text) ≡ first_line (drop start text) ∷ lines_of (drop (start + first_len (drop start text) + 1) text)
   lines_of-rest =
       let e : start + (first_len (drop start text) + 1) ≡ start + first_len (drop start text) + 1 = omega arith in
       lines_of-first (drop start text) (omega (arith, length-drop start text)) ∙ ap (λ rest. first_line (drop start text) ∷ lines_of rest) (drop-drop _ start text ∙ ap (λ n. drop n text) e)

@@ -1,15 +1,20 @@
 -- What the tokens of a text are, in the words of a reader: slices of the text in order, each as long as can be, with
 -- nothing but blanks between them.
-use Rattle.std.specs.Prelude.{◌≡◌, ℕ, ◌<◌, ◌≤◌, Bool, true, false, List, [], ◌∷◌, Result, Ok, is_some, slice_range, length, codes}
+use Rattle.std.specs.Prelude.{◌≡◌, ℕ, ◌+◌, ◌<◌, ◌≤◌, ◌==◌, ◌||◌, ◌⊎◌, not, Bool, true, false, List, [], ◌∷◌, None, Ok, Err, is_some, slice_range, length, take, drop, codes}
 use Rattle.std.specs.List.{list_all}
+use Rattle.tw_base.specs.Lists.{how_many, one_if}
 use Rattle.tw_lex.specs.declared.token.Token.{Token}
 use Rattle.tw_lex.specs.declared.token.What.{What}
 use Rattle.tw_lex.specs.declared.token.What.TheVariants.{Word, Number, Mark as AMark}
 use Rattle.tw_lex.specs.declared.token.Mark.{Mark}
 use Rattle.tw_lex.specs.declared.token.Mark.TheVariants.{Open, Close, BraceOpen, BraceClose, Comma, Semicolon, Colon, Becomes, Plus, Minus, Equal, Unequal, Less, LessEqual, Both, Either}
-use Rattle.tw_lex.specs.Bytes.{is_blank, is_digit, is_word_byte}
+use Rattle.tw_lex.specs.declared.token.Line.{Line}
+use Rattle.tw_lex.specs.declared.token.Lexed.{Lexed}
+use Rattle.tw_lex.specs.declared.token.LexError.{LexError}
+use Rattle.tw_lex.specs.declared.token.LexError.TheVariants.{NotAscii, BadToken}
+use Rattle.tw_lex.specs.Bytes.{is_line_feed, is_blank, is_digit, is_word_byte, is_allowed, code_of}
 use Rattle.tw_lex.specs.Lexemes.{decimal_value, pair_mark}
-use Rattle.tw_lex.specs.Lines.{tokens_of}
+use Rattle.tw_lex.specs.Lines.{tokens_from, tokens_of, line_tokens, lines_of, lexed}
 
 abbrev pub spelling : Mark → List ℕ
 spelling Open = codes "("
@@ -71,3 +76,65 @@ abbrev pub TokensAreSlices : Type 0
 TokensAreSlices =
     (text : List ℕ) (number from to : ℕ) (ts : List Token) → from ≤ to → to ≤ length text
     → tokens_of number from (slice_range text from to) ≡ Ok ts → InOrder text from to ts
+
+-- ---- lines
+
+-- a line feed or a comment
+abbrev pub ends_code : ℕ → Bool
+ends_code b = is_line_feed b || (b == 35)
+
+abbrev pub BeginWithEnd : List ℕ → Type 0
+BeginWithEnd [] = Unit {0}
+BeginWithEnd (b ∷ rest) = ends_code b ≡ true
+
+abbrev pub BeginWithFeed : List ℕ → Type 0
+BeginWithFeed [] = ⊥
+BeginWithFeed (b ∷ rest) = is_line_feed b ≡ true
+
+-- how many line feeds there are
+abbrev pub feeds : List ℕ → ℕ
+feeds bytes = how_many (λ b. one_if (is_line_feed b)) bytes
+
+-- a line begins there: the text does, or a line feed stands before it
+abbrev pub Begins : List ℕ → ℕ → Type 0
+Begins text from = (from ≡ 0) ⊎ ((before : ℕ) × (from ≡ before + 1) × BeginWithFeed (drop before text))
+
+-- The code of a line: from where the line begins up to a comment, a line feed or the text's end. Lines are numbered
+-- from 1, by the line feeds before them.
+pub record IsCode (text : List ℕ) (number from to : ℕ) : Type 0 where
+  pub begins : Begins text from
+  pub count : feeds (take from text) + 1 ≡ number
+  pub ordered : from ≤ to
+  pub within : to ≤ length text
+  pub inside : list_all (λ b. not (ends_code b)) (slice_range text from to) ≡ true
+  pub behind : BeginWithEnd (drop to text)
+
+abbrev pub IsLine : List ℕ → Line → Type 0
+IsLine text line = (from : ℕ) × (to : ℕ) × IsCode text line.number from to × InOrder text from to line.tokens
+
+-- lines of a text with rising numbers, the first of them this or more
+abbrev pub Rise : List ℕ → ℕ → List Line → Type 0
+Rise text number [] = Unit {0}
+Rise text number (line ∷ rest) = (number ≤ line.number) × IsLine text line × Rise text (line.number + 1) rest
+
+-- Each line that is found is a line of the text, with its number and the tokens of its code, in rising order.
+abbrev pub LinesAreTheTexts : Type 0
+LinesAreTheTexts = (text : List ℕ) (found : Lexed) → lexed text ≡ Ok found → Rise text 1 found.list
+
+-- ---- faults
+
+-- why a line has no tokens: a byte that may stand only in a comment, and else bytes that are no token
+abbrev pub IsFaultOf : ℕ → ℕ → List ℕ → LexError → Type 0
+IsFaultOf number start line e =
+    ((e ≡ NotAscii number) × (list_all is_allowed (code_of line) ≡ false))
+    ⊎ ((e ≡ BadToken number) × (list_all is_allowed (code_of line) ≡ true) × (tokens_from 0 start (code_of line) ≡ None))
+
+-- the fault of the first line that has one, each line before it with its tokens; the first begins at a place in the text
+abbrev pub IsFirstFault : ℕ → ℕ → List (List ℕ) → LexError → Type 0
+IsFirstFault number start [] e = ⊥
+IsFirstFault number start (line ∷ rest) e =
+    IsFaultOf number start line e ⊎ (((ts : List Token) × (line_tokens number start line ≡ Ok ts)) × IsFirstFault (number + 1) (start + length line + 1) rest e)
+
+-- A fault of a text is that of its first line with a fault.
+abbrev pub FaultsAreFirst : Type 0
+FaultsAreFirst = (text : List ℕ) (e : LexError) → lexed text ≡ Err e → IsFirstFault 1 0 (lines_of text) e
