@@ -1,1 +1,2 @@
+pub mod Bares
 pub mod Iso

@@ -6,5 +6,4 @@ ghost use Rattle.teapot_tree.specs.Bodies.{Body, body_of, tree_of};
 pub fn trees()
     ensures tree { (ss : List Stmt) → tree_of (body_of ss) ≡ ss }
     ensures body { (b : Body) → body_of (tree_of b) ≡ b }
-{
-}
+{}

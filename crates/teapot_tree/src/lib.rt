@@ -2,6 +2,7 @@
 //! gives, what a tree breaks of the rules of the language, and `Checked`, a tree that breaks none.
 #![tactic(auto)]
 
+mod compare;
 mod copy;
 mod expr;
 mod keyword;
@@ -9,6 +10,7 @@ mod laws;
 mod protocol;
 mod stmt;
 
+pub use compare::{same, same_exprs, same_stmts};
 pub use copy::{copy_exprs, copy_stmts};
 pub use expr::{Expr, Op};
 pub use keyword::{Keyword, keyword_of};
