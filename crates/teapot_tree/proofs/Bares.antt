@@ -1,11 +1,11 @@
 -- A statement with every line 0, by what it does.
-use Rattle.std.proofs.Common.{◌≡◌, ℕ, zero, suc, ◌+◌, ◌<◌, Bool, List, [], ◌∷◌, map, length, Option, Some, None, refl, ap, sym, ◌∙◌, arith, get_or}
+use Rattle.std.proofs.Common.{◌≡◌, ℕ, zero, suc, ◌<◌, Bool, List, [], ◌∷◌, map, length, Option, Some, None, ap, sym, ◌∙◌, arith, get_or}
 use Rattle.std.specs.Prelude.{◌↔◌}
 use Rattle.std.specs.Option.{option_map}
 use Rattle.tw_base.specs.declared.name.Name.{Name}
 use Rattle.teapot_tree.specs.declared.expr.Expr.{Expr}
-use Rattle.teapot_tree.specs.declared.stmt.Stmt.{Stmt, fold_out-Stmt, map-Stmt}
-use Rattle.teapot_tree.specs.declared.stmt.Do.{Do, fold-Do, roll-Do, out-Do, fold-roll-Do, map-Do}
+use Rattle.teapot_tree.specs.declared.stmt.Stmt.{Stmt}
+use Rattle.teapot_tree.specs.declared.stmt.Do.{Do, roll-Do, out-Do, fold-roll-Do, map-Do}
 use Rattle.teapot_tree.specs.declared.stmt.Do.TheOpen.{Do-F}
 use Rattle.teapot_tree.specs.declared.stmt.Do.TheVariants as v
 use Rattle.teapot_tree.specs.Bare.{bare, bare_all, bare_do}

@@ -1,5 +1,5 @@
 -- Which trees the grammar gives.
-use Rattle.std.specs.Prelude.{◌≡◌, ◌≤◌, ◌⊎◌, ℕ, nat_le, Bool, true, false, ◌==◌, ◌&&◌, ◌||◌, List, [], ◌∷◌, length, Option, None}
+use Rattle.std.specs.Prelude.{◌≡◌, ◌≤◌, ◌⊎◌, ℕ, nat_le, Bool, true, false, ◌==◌, ◌&&◌, ◌||◌, List, [], ◌∷◌, length, None}
 use Rattle.std.specs.List.{list_all}
 use Rattle.tw_base.specs.declared.name.Name.{Name}
 use Rattle.tw_base.specs.Lists.{Each}
