@@ -1,5 +1,5 @@
 -- How an exact answer is handed on.
-use Rattle.std.proofs.Common.{◌≡◌, Bool, true, false, Result, Ok, Err}
+use Rattle.std.proofs.Common.{◌≡◌, Bool, true, false, Result, Err}
 use Rattle.tw_base.specs.Answers.{Fails, FailsIf}
 
 pub FailsIf-along : {Y Z E : Type 0} (b : Bool) (e : E) (due : Result Y E) (total : Result Z E) → (due ≡ Err e → total ≡ Err e) → FailsIf b e due → FailsIf b e total

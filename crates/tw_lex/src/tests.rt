@@ -25,6 +25,14 @@ fn shown(alloc: Global, lexed: &Lexed) -> Result<String, Fail> {
     Ok(out)
 }
 
+// The lines of a short text.
+fn read(alloc: Global, text: &[u8]) -> Result<Lexed, LexError> {
+    if text.len() > 4096 {
+        return Err(LexError::Memory);
+    }
+    lines(alloc, text)
+}
+
 const TEXTS: [(&[u8], &str); 18] = [
     (b"", "0"),
     (b"\n\n", "2"),
@@ -77,7 +85,7 @@ const TEXTS: [(&[u8], &str); 18] = [
 fn texts_have_tokens(rt: HostRuntime) -> Result<(), Fail> {
     let alloc = rt.alloc();
     for (text, due) in &TEXTS {
-        match lines(alloc, text) {
+        match read(alloc, text) {
             Ok(lexed) => assert_eq!(rt; shown(alloc, &lexed)?.as_str(), *due),
             Err(error) => assert!(rt; false, "{due} is {error:?}"),
         }
@@ -114,7 +122,7 @@ const FAULTS: [(&[u8], LexError); 19] = [
 fn texts_have_faults(rt: HostRuntime) -> Result<(), Fail> {
     let alloc = rt.alloc();
     for (text, due) in &FAULTS {
-        match lines(alloc, text) {
+        match read(alloc, text) {
             Ok(lexed) => assert!(rt; false, "{due:?} is {}", shown(alloc, &lexed)?),
             Err(error) => assert_eq!(rt; error, *due),
         }
