@@ -1,1 +1,3 @@
+mod Enumerating
+mod Running
 mod Splitting

@@ -2,6 +2,8 @@
 //! call that does all that the program does.
 #![tactic(auto)]
 
+mod report;
+mod run;
 mod status;
 mod words;
 
