@@ -11,4 +11,4 @@ pub use error::{InputError, Why};
 pub use head::{Field, Head, Shipped, head_of};
 pub use layout::{Choice, Init, Layout, Numbered, Section, laid_out};
 pub use numbers::{nodes_of, shape_of, words_of};
-pub use setup::Setup;
+pub use setup::{Setup, layout_of, settings_of};

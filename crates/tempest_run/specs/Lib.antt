@@ -1,3 +1,4 @@
+pub mod Answering
 pub mod Reports
 pub mod Runs
 pub mod Statuses

@@ -48,7 +48,7 @@ outcome_text Spent = codes "spent"
 abbrev pub node_line : ℕ × Final → List ℕ
 node_line ended =
     line (codes "node" ∷ decimal ended.0 ∷ outcome_text ended.1.outcome ∷ codes "place" ∷ decimal ended.1.cpu.place
-      ∷ codes "instructions" ∷ decimal ended.1.instructions ∷ codes "handlers" ∷ decimal ended.1.handled ∷ [])
+    ∷ codes "instructions" ∷ decimal ended.1.instructions ∷ codes "handlers" ∷ decimal ended.1.handled ∷ [])
 
 -- the prints in the order of the journal, the words, the registers and the nodes at the end
 unfoldable pub report_of : ℕ → Sizes → List Entry → List Final → List ℕ → List ℕ

@@ -2,10 +2,13 @@
 //! call that does all that the program does.
 #![tactic(auto)]
 
+mod answer;
 mod report;
 mod run;
 mod status;
+mod top;
 mod words;
 
 pub use status::Status;
+pub use top::tempest_plain;
 pub use words::{Command, asked};

@@ -5,12 +5,7 @@ use mini_asm::Flat;
 use std::alloc::Global;
 use tw_base::{Act, Entry, Listed, Memory, NodeId};
 
-fn push_entry(
-    journal: &mut Listed<Entry>,
-    node: NodeId,
-    clock: u32,
-    act: Act,
-) -> Result<(), Memory>
+fn push_entry(journal: &mut Listed<Entry>, node: NodeId, clock: u32, act: Act) -> Result<(), Memory>
     ensures { OnOk result (journal.new ≡ journal.old ++ entry_of node clock act ∷ []) }
 {
     let entry = Entry {
@@ -38,7 +33,12 @@ fn next_act(flat: &mut Flat, node: NodeId) -> Option<Act>
 }
 
 /// Runs a node until it halts or traps, or has made `budget` instructions, and gives the journal.
-pub fn run(alloc: Global, flat: &mut Flat, node: NodeId, budget: u32) -> Result<Listed<Entry>, Memory>
+pub fn run(
+    alloc: Global,
+    flat: &mut Flat,
+    node: NodeId,
+    budget: u32,
+) -> Result<Listed<Entry>, Memory>
     ensures { IfOk result (λ journal. run_from node budget 0 flat.old ≡ record { journal = journal; machine = flat.new }) }
 {
     let mut journal = Listed::new(alloc);

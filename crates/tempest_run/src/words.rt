@@ -19,7 +19,11 @@ fn stride_of(word: &[u8]) -> Option<u32>
         return None;
     }
     let number = number_of(word)?;
-    if number < 1 << 32 { Some(number as u32) } else { None }
+    if number < 1 << 32 {
+        Some(number as u32)
+    } else {
+        None
+    }
 }
 
 fn two_words(command: &str, number: &str) -> Option<Command>

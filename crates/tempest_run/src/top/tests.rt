@@ -1,0 +1,496 @@
+use crate::{Status, tempest_plain};
+use std::alloc::Global;
+use std::process::Abort;
+use std::test::Fail;
+use tw_io::{MemSink, MemSource};
+
+const ROOM: usize = 1_048_576;
+
+fn words(alloc: Global, text: &str) -> Result<Vec<String>, Fail> {
+    let mut words = Vec::new(alloc);
+    for word in text.split(' ') {
+        if !word.is_empty() {
+            words.push(String::from_str(alloc, word)?)?;
+        }
+    }
+    Ok(words)
+}
+
+fn expect(
+    rt: &impl Abort,
+    alloc: Global,
+    asked: &str,
+    text: &str,
+    status: Status,
+    written: &str,
+) -> Result<(), Fail> {
+    let words = words(alloc, asked)?;
+    let mut source = MemSource::new(text.as_bytes().to_vec(alloc)?, 40, Vec::new(alloc));
+    let mut sink = MemSink::new(alloc, ROOM, 16, Vec::new(alloc))?;
+    let got = tempest_plain(alloc, &words, &mut source, &mut sink);
+    assert_eq!(rt; sink.bytes(), written.as_bytes());
+    assert_eq!(rt; got, status);
+    Ok(())
+}
+
+const REPORTS: [(&str, Status, &str); 9] = [
+    (
+        "tempest 1\nnodes 1\nwords 1\nblocks 1\nprogram 0\nli r1 5\nst r1 r0 0\nld r2 r0 0\nprint r2\nhalt\nend\n",
+        Status::Done,
+        "tempest report 1 nodes 1 words 1 blocks 1 budget 4000\nprint 0 5\nword 0 5\nregister 0 1 5\nregister 0 2 5\nnode 0 halted place 4 instructions 5 handlers 0\nhistory agrees\nend\n",
+    ),
+    (
+        "tempest 1\nnodes 1\nwords 1\nblocks 1\n",
+        Status::Done,
+        "tempest report 1 nodes 1 words 1 blocks 1 budget 4000\nnode 0 halted place 0 instructions 1 handlers 0\nhistory agrees\nend\n",
+    ),
+    (
+        "tempest 1\nnodes 1\nwords 1\nblocks 1\nprogram 0\nend",
+        Status::Unfinished,
+        "tempest report 1 nodes 1 words 1 blocks 1 budget 4000\nnode 0 trapped FellOff place 0 instructions 1 handlers 0\nhistory agrees\nend\n",
+    ),
+    (
+        "tempest 1\nnodes 1\nwords 1\nblocks 1\nprogram 0\nld r1 r0 1\nhalt\nend\n",
+        Status::Unfinished,
+        "tempest report 1 nodes 1 words 1 blocks 1 budget 4000\nnode 0 trapped BadAddress place 0 instructions 1 handlers 0\nhistory agrees\nend\n",
+    ),
+    (
+        "tempest 1\nnodes 1\nwords 4\nblocks 2\ninit 7 3\nprogram 0\nld r1 r0 7\nld r2 r0 8\nhalt\nend\n",
+        Status::Unfinished,
+        "tempest report 1 nodes 1 words 4 blocks 2 budget 4000\nword 7 3\nregister 0 1 3\nnode 0 trapped BadAddress place 1 instructions 2 handlers 0\nhistory agrees\nend\n",
+    ),
+    (
+        "tempest 1\nnodes 1\nwords 1\nblocks 1\nbudget 3\nprogram 0\na:\njmp a\nend\n",
+        Status::Unfinished,
+        "tempest report 1 nodes 1 words 1 blocks 1 budget 3\nnode 0 spent place 0 instructions 3 handlers 0\nhistory agrees\nend\n",
+    ),
+    (
+        "tempest 1\nnodes 1\nwords 1\nblocks 1\nbudget 156250\nprogram 0\njmp a\nli r1 1\na:\nend\n",
+        Status::Unfinished,
+        "tempest report 1 nodes 1 words 1 blocks 1 budget 156250\nnode 0 trapped FellOff place 2 instructions 2 handlers 0\nhistory agrees\nend\n",
+    ),
+    (
+        "tempest 2\nnodes 1\nwords 1\nblocks 1\ninit 0 40\nprogram 0\nli r1 2\nfaa r1 r1 r0 0\nprint r1\nli r2 3\nfaa r3 r2 r0 18446744073709551615\nhalt\nend\n",
+        Status::Unfinished,
+        "tempest report 2 nodes 1 words 1 blocks 1 budget 4000\nprint 0 40\nword 0 42\nregister 0 1 40\nregister 0 2 3\nnode 0 trapped BadAddress place 4 instructions 5 handlers 0\nhistory agrees\nend\n",
+    ),
+    (
+        "# a comment\r\n\n tempest\t001 \nnodes 01\nwords 1 # w\nblocks 1\nprogram 0\nhalt\nend",
+        Status::Done,
+        "tempest report 1 nodes 1 words 1 blocks 1 budget 4000\nnode 0 halted place 0 instructions 1 handlers 0\nhistory agrees\nend\n",
+    ),
+];
+
+#[test]
+fn texts_are_run(rt: HostRuntime) -> Result<(), Fail> {
+    for (text, status, report) in &REPORTS {
+        expect(&rt, rt.alloc(), "serial 0", text, *status, report)?;
+        expect(&rt, rt.alloc(), "serial 4294967295", text, *status, report)?;
+    }
+    Ok(())
+}
+
+const REFUSALS: [(&str, &str); 88] = [
+    ("tempest 1\nnodes 1 \x01\n", "refused line 2 NotAscii\n"),
+    (
+        "tempest 1\nnodes 1\nwords 4\nblocks 2\nbudget 2x\n",
+        "refused line 5 BadToken\n",
+    ),
+    (
+        "tempest 1\nnodes 1\nwords 4\nblocks 2\nbudget !\n",
+        "refused line 5 BadToken\n",
+    ),
+    ("tempest 1\n! \x7f\n", "refused line 2 NotAscii\n"),
+    ("!\n\x7f\n", "refused line 1 BadToken\n"),
+    (
+        "tempest 1\nnodes 1\nwords 4\nblocks 2\ninit 0 18446744073709551616\n",
+        "refused line 5 BadToken\n",
+    ),
+    ("nodes\n!\n", "refused line 2 BadToken\n"),
+    ("", "refused line 1 BadLine\n"),
+    ("\n\n# x\n", "refused line 4 BadLine\n"),
+    ("tempest\n", "refused line 1 BadLine\n"),
+    ("nodes 1\n", "refused line 1 BadLine\n"),
+    ("tempest 1\n", "refused line 2 BadLine\n"),
+    ("tempest 1\nwords 1\n", "refused line 2 BadLine\n"),
+    ("tempest 1\nnodes 1\n", "refused line 3 BadLine\n"),
+    ("tempest 1\nnodes 1\nwords 1\n", "refused line 4 BadLine\n"),
+    ("tempest 1\nnodes 1\nblocks 1\n", "refused line 3 BadLine\n"),
+    (
+        "tempest 1\nnodes 1\nwords 4\nblocks 2\nhalt\n",
+        "refused line 5 BadLine\n",
+    ),
+    (
+        "tempest 1\nnodes 1\nwords 4\nblocks 2\nend\n",
+        "refused line 5 BadLine\n",
+    ),
+    (
+        "tempest 1\nnodes 1\nwords 4\nblocks 2\nprogram 0\nhalt\n",
+        "refused line 7 BadLine\n",
+    ),
+    (
+        "tempest 1\nnodes 1\nwords 4\nblocks 2\nprogram\nend\n",
+        "refused line 5 BadLine\n",
+    ),
+    (
+        "tempest 1\nnodes 1\nwords 4\nblocks 2\nprogram 0 0\nend\n",
+        "refused line 5 BadLine\n",
+    ),
+    (
+        "tempest 1\nnodes 1\nwords 4\nblocks 2\ninit 0\n",
+        "refused line 5 BadLine\n",
+    ),
+    (
+        "tempest 1\nnodes 1\nwords 4\nblocks 2\ninit 0 1 2\n",
+        "refused line 5 BadLine\n",
+    ),
+    (
+        "tempest 1\nnodes 1\nwords 4\nblocks 2\nbudget 1\nbudget 2\n",
+        "refused line 6 BadLine\n",
+    ),
+    (
+        "tempest 1\nnodes 1\nwords 4\nblocks 2\ninit 0 1\nbudget 2\n",
+        "refused line 6 BadLine\n",
+    ),
+    (
+        "tempest 1\nnodes 1\nwords 4\nblocks 2\nprogram 0\nend\ninit 0 1\n",
+        "refused line 7 BadLine\n",
+    ),
+    (
+        "tempest 1\nnodes 1\nwords 4\nblocks 2\nprogram 0\nend\nbudget 1\n",
+        "refused line 7 BadLine\n",
+    ),
+    (
+        "tempest 1\nnodes 1\nwords 4\nblocks 2\nprotocol\n",
+        "refused line 6 BadLine\n",
+    ),
+    (
+        "tempest 1\nnodes 1\nwords 4\nblocks 2\nprotocol\nx\nend\nprogram 0\nend\n",
+        "refused line 8 BadLine\n",
+    ),
+    (
+        "tempest 1\nnodes 1\nwords 4\nblocks 2\nprotocol\nend\nprotocol\nend\n",
+        "refused line 7 BadLine\n",
+    ),
+    (
+        "tempest 1\nnodes 1\nwords 4\nblocks 2\nshipped Stache\n",
+        "refused line 5 BadLine\n",
+    ),
+    (
+        "tempest 2\nnodes 1\nwords 1\nblocks 1\nshipped Other\n",
+        "refused line 5 BadLine\n",
+    ),
+    (
+        "tempest 2\nnodes 1\nwords 1\nblocks 1\nshipped Stache\nshipped Stache\n",
+        "refused line 6 BadLine\n",
+    ),
+    (
+        "tempest 3\nnodes 1\nwords 1\nblocks 1\nshipped Stache\n",
+        "refused line 5 BadLine\n",
+    ),
+    ("Tempest 1\n", "refused line 1 BadLine\n"),
+    (
+        "tempest 1\nnodes 1\nwords 4\nblocks 2\ntempest 1\n",
+        "refused line 5 BadLine\n",
+    ),
+    ("tempest 1\nnodes 9\nwords 1\n", "refused line 4 BadLine\n"),
+    (
+        "tempest 1\r\nnodes 1\r\n\twords 1\r\n",
+        "refused line 4 BadLine\n",
+    ),
+    (
+        "tempest 0\nnodes 1\nwords 1\nblocks 1\n",
+        "refused line 1 OutOfRange\n",
+    ),
+    (
+        "tempest 3\nnodes 9\nwords 1\nblocks 1\n",
+        "refused line 1 OutOfRange\n",
+    ),
+    (
+        "tempest 1\nnodes 0\nwords 1\nblocks 1\n",
+        "refused line 2 OutOfRange\n",
+    ),
+    (
+        "tempest 1\nnodes 9\nwords 1\nblocks 1\n",
+        "refused line 2 OutOfRange\n",
+    ),
+    (
+        "tempest 1\nnodes 18446744073709551615\nwords 1\nblocks 1\n",
+        "refused line 2 OutOfRange\n",
+    ),
+    (
+        "tempest 1\nnodes 1\nwords 0\nblocks 1\n",
+        "refused line 3 OutOfRange\n",
+    ),
+    (
+        "tempest 1\nnodes 1\nwords 9\nblocks 1\n",
+        "refused line 3 OutOfRange\n",
+    ),
+    (
+        "tempest 1\nnodes 1\nwords 1\nblocks 0\n",
+        "refused line 4 OutOfRange\n",
+    ),
+    (
+        "tempest 1\nnodes 1\nwords 1\nblocks 65\n",
+        "refused line 4 OutOfRange\n",
+    ),
+    (
+        "tempest 1\nnodes 1\nwords 4\nblocks 2\nbudget 0\n",
+        "refused line 5 OutOfRange\n",
+    ),
+    (
+        "tempest 1\nnodes 1\nwords 4\nblocks 2\nbudget 156251\n",
+        "refused line 5 OutOfRange\n",
+    ),
+    (
+        "tempest 1\nnodes 1\nwords 4\nblocks 2\nbudget 2305843009213693952\n",
+        "refused line 5 OutOfRange\n",
+    ),
+    (
+        "tempest 1\nnodes 8\nwords 1\nblocks 1\nbudget 4341\n",
+        "refused line 5 OutOfRange\n",
+    ),
+    (
+        "tempest 1\nnodes 1\nwords 4\nblocks 2\ninit 8 1\n",
+        "refused line 5 OutOfRange\n",
+    ),
+    (
+        "tempest 1\nnodes 1\nwords 4\nblocks 2\ninit 4294967296 1\n",
+        "refused line 5 OutOfRange\n",
+    ),
+    (
+        "tempest 1\nnodes 1\nwords 4\nblocks 2\ninit 0 1\ninit 0 1\n",
+        "refused line 6 Repeated\n",
+    ),
+    (
+        "tempest 1\nnodes 1\nwords 4\nblocks 2\ninit 7 1\ninit 8 1\ninit 7 1\n",
+        "refused line 6 OutOfRange\n",
+    ),
+    (
+        "tempest 1\nnodes 1\nwords 4\nblocks 2\ninit 7 1\ninit 7 1\ninit 8 1\n",
+        "refused line 6 Repeated\n",
+    ),
+    (
+        "tempest 1\nnodes 1\nwords 4\nblocks 2\nprogram 1\nend\n",
+        "refused line 5 OutOfRange\n",
+    ),
+    (
+        "tempest 1\nnodes 1\nwords 4\nblocks 2\nprogram 256\nend\n",
+        "refused line 5 OutOfRange\n",
+    ),
+    (
+        "tempest 1\nnodes 1\nwords 4\nblocks 2\nprogram 0\nend\nprogram 0\nend\n",
+        "refused line 7 Repeated\n",
+    ),
+    (
+        "tempest 1\nnodes 1\nwords 4\nblocks 2\nprogram 0\nend\nprogram 1\nend\n",
+        "refused line 7 OutOfRange\n",
+    ),
+    (
+        "tempest 1\nnodes 1\nwords 4\nblocks 2\nprogram 0\nnonsense\nend\nprogram 9\nend\n",
+        "refused line 8 OutOfRange\n",
+    ),
+    (
+        "tempest 1\nnodes 1\nwords 4\nblocks 2\ninit 0 1\nprogram 0\nend\nprogram 0\nend\n",
+        "refused line 8 Repeated\n",
+    ),
+    (
+        "tempest 1\nnodes 1\nwords 4\nblocks 2\nprogram 0\nfoo\nend\n",
+        "refused line 6 BadLine\n",
+    ),
+    (
+        "tempest 1\nnodes 1\nwords 4\nblocks 2\nprogram 0\nli r16 1\nend\n",
+        "refused line 6 BadLine\n",
+    ),
+    (
+        "tempest 1\nnodes 1\nwords 4\nblocks 2\nprogram 0\nli r1\nend\n",
+        "refused line 6 BadLine\n",
+    ),
+    (
+        "tempest 1\nnodes 1\nwords 4\nblocks 2\nprogram 0\nli r1 1 1\nend\n",
+        "refused line 6 BadLine\n",
+    ),
+    (
+        "tempest 1\nnodes 1\nwords 4\nblocks 2\nprogram 0\nhalt halt\nend\n",
+        "refused line 6 BadLine\n",
+    ),
+    (
+        "tempest 1\nnodes 1\nwords 4\nblocks 2\nprogram 0\nld r1 r0\nend\n",
+        "refused line 6 BadLine\n",
+    ),
+    (
+        "tempest 1\nnodes 1\nwords 4\nblocks 2\nprogram 0\nbeq r1 r2 r3\nend\n",
+        "refused line 6 BadLine\n",
+    ),
+    (
+        "tempest 1\nnodes 1\nwords 4\nblocks 2\nprogram 0\njmp r0\nend\n",
+        "refused line 6 BadLine\n",
+    ),
+    (
+        "tempest 1\nnodes 1\nwords 4\nblocks 2\nprogram 0\nr1:\nend\n",
+        "refused line 6 BadLine\n",
+    ),
+    (
+        "tempest 1\nnodes 1\nwords 4\nblocks 2\nprogram 0\nfaa r1 r2 r3 0\nend\n",
+        "refused line 6 BadLine\n",
+    ),
+    (
+        "tempest 1\nnodes 1\nwords 4\nblocks 2\nprogram 0\nprint 5\nend\n",
+        "refused line 6 BadLine\n",
+    ),
+    (
+        "tempest 1\nnodes 1\nwords 4\nblocks 2\nprogram 0\na : b\nend\n",
+        "refused line 6 BadLine\n",
+    ),
+    (
+        "tempest 1\nnodes 1\nwords 4\nblocks 2\nprogram 0\nst r1 r0 18446744073709551616\nend\n",
+        "refused line 6 BadToken\n",
+    ),
+    (
+        "tempest 1\nnodes 1\nwords 4\nblocks 2\nprogram 0\njmp end\nend\n",
+        "refused line 6 NoLabel\n",
+    ),
+    (
+        "tempest 1\nnodes 1\nwords 4\nblocks 2\nprogram 0\na:\na:\nend\n",
+        "refused line 7 LabelTwice\n",
+    ),
+    (
+        "tempest 1\nnodes 1\nwords 4\nblocks 2\nprogram 0\njmp a\nend\n",
+        "refused line 6 NoLabel\n",
+    ),
+    (
+        "tempest 1\nnodes 1\nwords 4\nblocks 2\nprogram 0\njmp a\nb:\nb:\nend\n",
+        "refused line 8 LabelTwice\n",
+    ),
+    (
+        "tempest 1\nnodes 1\nwords 4\nblocks 2\nprogram 0\njmp a\nfoo\nend\n",
+        "refused line 7 BadLine\n",
+    ),
+    (
+        "tempest 1\nnodes 1\nwords 4\nblocks 2\nprogram 0\na:\na:\nfoo\nend\n",
+        "refused line 8 BadLine\n",
+    ),
+    (
+        "tempest 1\nnodes 1\nwords 4\nblocks 2\nprogram 0\nbne r1 r2 x\nbeq r1 r2 y\nx:\nend\n",
+        "refused line 7 NoLabel\n",
+    ),
+    (
+        "tempest 2\nnodes 1\nwords 1\nblocks 1\nprogram 0\nfaa r1 r2 r3\nend\n",
+        "refused line 6 BadLine\n",
+    ),
+    (
+        "tempest 1\nnodes 2\nwords 1\nblocks 1\n",
+        "refused line 2 NotYet\n",
+    ),
+    (
+        "tempest 1\nnodes 1\nwords 4\nblocks 2\nprotocol\nend\n",
+        "refused line 5 NotYet\n",
+    ),
+    (
+        "tempest 2\nnodes 1\nwords 1\nblocks 1\nshipped Stache\n",
+        "refused line 5 NotYet\n",
+    ),
+    (
+        "tempest 1\nnodes 2\nwords 1\nblocks 1\nprotocol\nend\n",
+        "refused line 2 NotYet\n",
+    ),
+    (
+        "tempest 1\nnodes 2\nwords 1\nblocks 1\nprogram 1\nfoo\nend\n",
+        "refused line 6 BadLine\n",
+    ),
+];
+
+#[test]
+fn texts_are_refused(rt: HostRuntime) -> Result<(), Fail> {
+    for (text, refusal) in &REFUSALS {
+        expect(&rt, rt.alloc(), "serial 0", text, Status::Refused, refusal)?;
+    }
+    Ok(())
+}
+
+const NO_COMMANDS: [&str; 12] = [
+    "",
+    "serial",
+    "serial -1",
+    "serial +1",
+    "serial 4294967296",
+    "serial 0 0",
+    "serial x",
+    "run",
+    "--journal serial 0",
+    "serial --",
+    "-serial 0",
+    "-- serial -- 0",
+];
+
+#[test]
+fn words_are_read(rt: HostRuntime) -> Result<(), Fail> {
+    let (text, status, report) = &REPORTS[0];
+    for asked in ["serial 007", "-- serial 0", "serial -- 1"] {
+        expect(&rt, rt.alloc(), asked, text, *status, report)?;
+    }
+    for asked in &NO_COMMANDS {
+        expect(
+            &rt,
+            rt.alloc(),
+            asked,
+            text,
+            Status::Usage,
+            "refused words\n",
+        )?;
+    }
+    Ok(())
+}
+
+#[test]
+fn faults_are_told(rt: HostRuntime) -> Result<(), Fail> {
+    let alloc = rt.alloc();
+    let words = words(alloc, "serial 0")?;
+    let text = REPORTS[0].0.as_bytes();
+    let mut source = MemSource::new(text.to_vec(alloc)?, 40, [3].to_vec(alloc)?);
+    let mut sink = MemSink::new(alloc, ROOM, 16, Vec::new(alloc))?;
+    assert_eq!(rt;
+        tempest_plain(alloc, &words, &mut source, &mut sink),
+        Status::ReadFault
+    );
+    assert_eq!(rt; sink.bytes(), b"".as_slice());
+    let mut source = MemSource::new(text.to_vec(alloc)?, 40, Vec::new(alloc));
+    let mut sink = MemSink::new(alloc, ROOM, 16, [2].to_vec(alloc)?)?;
+    assert_eq!(rt;
+        tempest_plain(alloc, &words, &mut source, &mut sink),
+        Status::WriteFault
+    );
+    assert_eq!(rt; sink.bytes(), b"tempest report 1".as_slice());
+    Ok(())
+}
+
+// The text of the first report, with a comment of so many bytes.
+fn padded(alloc: Global, count: usize) -> Result<Vec<u8>, Fail> {
+    let mut text = REPORTS[0].0.as_bytes().to_vec(alloc)?;
+    text.push(b'#')?;
+    for _ in 0..count {
+        text.push(b'x')?;
+    }
+    Ok(text)
+}
+
+#[test]
+fn long_texts_are_refused(rt: HostRuntime) -> Result<(), Fail> {
+    let alloc = rt.alloc();
+    let words = words(alloc, "serial 0")?;
+    let mut source = MemSource::new(padded(alloc, 1_048_482)?, 65_536, Vec::new(alloc));
+    let mut sink = MemSink::new(alloc, ROOM, 65_536, Vec::new(alloc))?;
+    assert_eq!(rt;
+        tempest_plain(alloc, &words, &mut source, &mut sink),
+        Status::Done
+    );
+    assert_eq!(rt; sink.bytes(), REPORTS[0].2.as_bytes());
+    let mut source = MemSource::new(padded(alloc, 1_048_483)?, 65_536, Vec::new(alloc));
+    let mut sink = MemSink::new(alloc, ROOM, 65_536, Vec::new(alloc))?;
+    assert_eq!(rt;
+        tempest_plain(alloc, &words, &mut source, &mut sink),
+        Status::TooLong
+    );
+    assert_eq!(rt; sink.bytes(), b"refused length\n".as_slice());
+    Ok(())
+}
