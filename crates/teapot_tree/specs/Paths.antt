@@ -87,11 +87,11 @@ sends _ = 0
 
 -- on some path, each body of a ForEach being taken once and counted eight times
 pub data Sends : Body → ℕ → Type 0 where
-  none : Sends done 0
-  more : {n : ℕ} {s : Simple} {b : Body} {k : ℕ} → Sends b k → Sends (plain n s b) (sends s + k)
-  taken : {n : ℕ} {e : Expr} {x b : Body} {k m : ℕ} → Sends x k → Sends b m → Sends (branch n e x b) (k + m)
-  passed : {n : ℕ} {e : Expr} {x b : Body} {m : ℕ} → Sends b m → Sends (branch n e x b) m
-  first : {n : ℕ} {e : Expr} {x y b : Body} {k m : ℕ} → Sends x k → Sends b m → Sends (branches n e x y b) (k + m)
-  second : {n : ℕ} {e : Expr} {x y b : Body} {k m : ℕ} → Sends y k → Sends b m → Sends (branches n e x y b) (k + m)
+  nothing : Sends done 0
+  counted : {n : ℕ} {s : Simple} {b : Body} {k : ℕ} → Sends b k → Sends (plain n s b) (sends s + k)
+  if_taken : {n : ℕ} {e : Expr} {x b : Body} {k m : ℕ} → Sends x k → Sends b m → Sends (branch n e x b) (k + m)
+  if_passed : {n : ℕ} {e : Expr} {x b : Body} {m : ℕ} → Sends b m → Sends (branch n e x b) m
+  if_first : {n : ℕ} {e : Expr} {x y b : Body} {k m : ℕ} → Sends x k → Sends b m → Sends (branches n e x y b) (k + m)
+  if_second : {n : ℕ} {e : Expr} {x y b : Body} {k m : ℕ} → Sends y k → Sends b m → Sends (branches n e x y b) (k + m)
   repeated : {n : ℕ} {v : Name} {e : Expr} {x b : Body} {k m : ℕ} → Sends x k → Sends b m → Sends (loop n v e x b) (8 * k + m)
-  over : {n : ℕ} {v : Name} {s : List Bool} {x b : Body} {m : ℕ} → Sends b m → Sends (each n v s x b) m
+  passed_over : {n : ℕ} {v : Name} {s : List Bool} {x b : Body} {m : ℕ} → Sends b m → Sends (each n v s x b) m

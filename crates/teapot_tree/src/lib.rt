@@ -11,6 +11,8 @@ mod laws;
 mod protocol;
 mod rule;
 mod stmt;
+#[cfg(test)]
+mod tests;
 
 pub use checked::Checked;
 pub use compare::{same, same_exprs, same_stmts};
