@@ -1,5 +1,5 @@
 -- The table of errors does not look at lines.
-use Rattle.std.proofs.Common.{◌≡◌, ◌∙◌, ℕ, List, [], ◌∷◌, ◌++◌, Some, None, map, refl, ap, sym, subst}
+use Rattle.std.proofs.Common.{◌≡◌, ◌∙◌, List, [], ◌∷◌, ◌++◌, Some, None, map, refl, ap, sym, subst}
 use Rattle.std.specs.List.{flat_map, fold}
 use Rattle.tw_base.specs.declared.name.Name.{Name}
 use Rattle.teapot_tree.specs.declared.protocol.Handler.{Handler}
@@ -7,8 +7,8 @@ use Rattle.teapot_tree.specs.declared.protocol.Protocol.{Protocol}
 use Rattle.teapot_tree.specs.declared.protocol.State.{State}
 use Rattle.teapot_tree.specs.declared.stmt.Do.{Do, roll-Do, fold-Do, fold-roll-Do, map-Do}
 use Rattle.teapot_tree.specs.declared.stmt.Do.TheOpen.{Do-F, Stmt-F}
-use Rattle.teapot_tree.specs.declared.stmt.Stmt.{Stmt, fold-Stmt, fold_out-Stmt, roll-Stmt, ind-Stmt, map-Stmt}
-use Rattle.teapot_tree.specs.Bare.{bare, bare_do, bare_all, bare_handler, bare_protocol, bare_state}
+use Rattle.teapot_tree.specs.declared.stmt.Stmt.{Stmt, fold_out-Stmt, roll-Stmt, ind-Stmt, map-Stmt}
+use Rattle.teapot_tree.specs.Bare.{bare, bare_do, bare_handler, bare_protocol, bare_state}
 use Rattle.teapot_meaning.specs.Names.{error_names, errors_in, errors_of, errors_step, joined, noted, state_errors}
 
 abbrev of_do : Do → List Name

@@ -36,7 +36,7 @@ use Rattle.teapot_meaning.specs.declared.state.Next.TheVariants.{On, Over}
 use Rattle.teapot_meaning.specs.declared.state.Running.{Running}
 use Rattle.teapot_meaning.specs.declared.state.StateVal.{StateVal, out-StateVal, roll-StateVal, out-roll-StateVal, fold_out-StateVal, fold-roll-StateVal, ind-StateVal, map-StateVal}
 use Rattle.teapot_meaning.specs.Bare.{bare_cont, bare_ended, bare_here, bare_next, bare_running, bare_val}
-use Rattle.teapot_tree.specs.Bare.{bare, bare_all, bare_do, bare_handler, bare_message, bare_param, bare_protocol, bare_state}
+use Rattle.teapot_tree.specs.Bare.{bare, bare_all, bare_handler, bare_message, bare_param, bare_protocol, bare_state}
 use Rattle.teapot_meaning.specs.Depth.{depth}
 use Rattle.teapot_meaning.specs.Does.{Does, local_of, started, vars_of}
 use Rattle.teapot_meaning.specs.Handlers.{answers, default_of, handler_in, is_at, own_or}

@@ -1,13 +1,13 @@
 -- What an accepted protocol has.
 use Rattle.std.proofs.Common.{◌≡◌, ℕ, zero, suc, ◌<◌, Bool, true, false, not, List, [], ◌∷◌, length, get_or, refl, inl, inr, arith}
-use Rattle.std.specs.Prelude.{◌&&◌, ◌⊎◌, Some, find, if◌then◌else◌, is_some}
+use Rattle.std.specs.Prelude.{◌&&◌, Some, find, if◌then◌else◌, is_some}
 use Rattle.std.specs.List.{list_all}
 use Rattle.teapot_tree.specs.declared.protocol.Handler.{Handler}
 use Rattle.teapot_tree.specs.declared.protocol.Protocol.{Protocol}
 use Rattle.teapot_tree.specs.declared.protocol.State.{State}
 use Rattle.teapot_tree.specs.declared.rule.Rule.TheVariants.{NoDefault}
 use Rattle.teapot_tree.specs.Rules.{Any, IsAccepted, has_default, is_default}
-use Rattle.teapot_meaning.specs.Handlers.{HasDefault, IsServed, default_of}
+use Rattle.teapot_meaning.specs.Handlers.{HasDefault, IsServed}
 
 found : (d : Handler → Bool) (hs : List Handler) → not (list_all (λ h. not (d h)) hs) ≡ true → is_some (find d hs) ≡ true
 found d [] e = e

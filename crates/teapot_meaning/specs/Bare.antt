@@ -1,5 +1,4 @@
 -- Blocks whose statements have every line 0.
-use Rattle.std.specs.Prelude.{List}
 use Rattle.teapot_tree.specs.Bare.{bare_all}
 use Rattle.teapot_meaning.specs.declared.state.Cont.{Cont, roll-Cont, fold-Cont}
 use Rattle.teapot_meaning.specs.declared.state.Ended.{Ended}

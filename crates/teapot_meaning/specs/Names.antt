@@ -3,7 +3,6 @@ use Rattle.std.specs.Prelude.{ℕ, ◌-◌, ◌^◌, min, ◌++◌, ◌∷◌, L
 use Rattle.std.specs.List.{flat_map, fold, list_any}
 use Rattle.std.specs.Str.{bytes_eq}
 use Rattle.tw_base.specs.declared.name.Name.{Name}
-use Rattle.teapot_tree.specs.declared.protocol.Handler.{Handler}
 use Rattle.teapot_tree.specs.declared.protocol.Protocol.{Protocol}
 use Rattle.teapot_tree.specs.declared.protocol.State.{State}
 use Rattle.teapot_tree.specs.declared.stmt.Do.TheOpen.{Do-F}

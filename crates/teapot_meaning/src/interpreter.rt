@@ -211,7 +211,12 @@ fn does_answer(p: &Protocol, kind: Kind, on: &Trigger) -> bool
 }
 
 /// Runs the statements to their end.
-fn go(alloc: Global, p: &Protocol, mut stmts: Listed<Stmt>, mut r: Running) -> Result<Ended, Memory>
+pub fn go(
+    alloc: Global,
+    p: &Protocol,
+    mut stmts: Listed<Stmt>,
+    mut r: Running,
+) -> Result<Ended, Memory>
     requires { IsServed p.now }
     ensures { IfOk result (λ end. Goes p.now stmts r end) }
 {

@@ -15,6 +15,8 @@ mod names;
 mod sets;
 mod state;
 mod step;
+#[cfg(test)]
+mod tests;
 
 pub use errors::{error_names, error_number};
 pub use interpreter::run;

@@ -494,80 +494,35 @@ fn suspend(
     if is_deep(&r.here.state, 8) {
         return Ok(Next::Over(over(r, End::TooDeep)));
     }
-    let Running {
-        here,
-        vars,
-        came,
-        sends,
-        kept,
-        freed,
-        woke,
-    } = r;
-    let Here {
-        me,
-        home,
-        block,
-        infos,
-        state,
-        tag,
-        words,
-    } = here;
-    let saved = Boxed::new(alloc, state)?;
-    let cont = Boxed::new(
-        alloc,
-        Cont {
-            rest,
-            vars,
-            came,
-            saved,
-        },
-    )?;
-    let here = Here {
-        me,
-        home,
-        block,
-        infos,
-        state: StateVal {
-            state: number,
-            args,
-            cont: Some(cont),
-        },
-        tag,
-        words,
+    let mut here = r.here;
+    let saved = Boxed::new(alloc, here.state)?;
+    let kept = Cont {
+        rest,
+        vars: r.vars,
+        came: r.came,
+        saved,
+    };
+    here.state = StateVal {
+        state: number,
+        args,
+        cont: Some(Boxed::new(alloc, kept)?),
     };
     Ok(Next::Over(Ended {
         here,
-        sends,
-        kept,
-        freed,
-        woke,
+        sends: r.sends,
+        kept: r.kept,
+        freed: r.freed,
+        woke: r.woke,
         end: End::Fine,
     }))
 }
 
 #[tactic(auto, unfolding(crate::specs::Steps::resumes, crate::specs::Steps::ended))]
-fn resume(r: Running) -> Next
+fn resume(mut r: Running) -> Next
     ensures { result ≡ resumes r (out-StateVal r.here.state).cont }
 {
-    let Running {
-        here,
-        vars: _,
-        came: _,
-        sends,
-        kept,
-        freed,
-        woke,
-    } = r;
-    let Here {
-        me,
-        home,
-        block,
-        infos,
-        state,
-        tag,
-        words,
-    } = here;
-    let StateVal { state, args, cont } = state;
+    let mut here = r.here;
+    let StateVal { state, args, cont } = here.state;
     match cont {
         Some(cont) => {
             let Cont {
@@ -576,51 +531,22 @@ fn resume(r: Running) -> Next
                 came,
                 saved,
             } = cont.into_inner();
-            let here = Here {
-                me,
-                home,
-                block,
-                infos,
-                state: saved.into_inner(),
-                tag,
-                words,
-            };
-            Next::On(
-                rest,
-                Running {
-                    here,
-                    vars,
-                    came,
-                    sends,
-                    kept: free(kept),
-                    freed: true,
-                    woke,
-                },
-            )
+            here.state = saved.into_inner();
+            r.here = here;
+            r.vars = vars;
+            r.came = came;
+            r.kept = free(r.kept);
+            r.freed = true;
+            Next::On(rest, r)
         }
         None => {
-            let state = StateVal {
+            here.state = StateVal {
                 state,
                 args,
                 cont: None,
             };
-            let here = Here {
-                me,
-                home,
-                block,
-                infos,
-                state,
-                tag,
-                words,
-            };
-            Next::Over(Ended {
-                here,
-                sends,
-                kept,
-                freed,
-                woke,
-                end: End::Fine,
-            })
+            r.here = here;
+            Next::Over(over(r, End::Fine))
         }
     }
 }
