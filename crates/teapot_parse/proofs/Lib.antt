@@ -6,3 +6,12 @@ pub mod Steps
 pub mod Builds
 pub mod Erasing
 pub mod Nests
+pub mod Limits
+pub mod Whole
+pub mod Again
+pub mod Goods
+pub mod Spelt
+pub mod Founds
+pub mod Bounds
+pub mod Words
+pub mod Found

@@ -1,8 +1,14 @@
 -- The lines of a text give a tree: line by line they spell its forms.
-use Rattle.std.specs.Prelude.{◌≡◌, ℕ, true, List, [], ◌∷◌, map}
+use Rattle.std.specs.Prelude.{◌≡◌, ◌≤◌, ℕ, true, List, [], ◌∷◌, length, map}
+use Rattle.std.specs.List.{list_all}
+use Rattle.tw_base.specs.Lists.{Each}
 use Rattle.tw_lex.specs.declared.token.Line.{Line}
+use Rattle.tw_lex.specs.declared.token.Token.{Token}
+use Rattle.tw_lex.specs.declared.token.What.{What}
+use Rattle.tw_lex.specs.declared.token.What.TheVariants as what
 use Rattle.teapot_tree.specs.declared.expr.Expr.{Expr}
 use Rattle.teapot_tree.specs.declared.protocol.Protocol.{Protocol}
+use Rattle.teapot_tree.specs.Grammar.{is_letter_or_digit, starts_word}
 use Rattle.teapot_lines.specs.declared.form.Form.{Form}
 use Rattle.teapot_lines.specs.declared.form.Form.TheVariants as f
 use Rattle.teapot_lines.specs.Seen.{seen}
@@ -28,3 +34,13 @@ erased q = erased_at q.0 q.1
 -- the lines spell forms, and these nest as the tree
 abbrev pub IsGiven : List Line → Protocol → Type 0
 IsGiven lines p = (qs : Lines) × SpellAll p.profile lines qs × (map erased qs ≡ lines_of p)
+
+-- a word of a text: a letter or `_`, then letters, digits and `_`, at most 64 bytes
+abbrev pub IsTextToken : What → Type 0
+IsTextToken (what.Word w) = (starts_word w ≡ true) × (list_all is_letter_or_digit w ≡ true) × (length w ≤ 64)
+IsTextToken (what.Number n) = Unit {0}
+IsTextToken (what.Mark m) = Unit {0}
+
+-- lines as they stand in a text
+abbrev pub AreTextLines : List Line → Type 0
+AreTextLines lines = Each (λ (l : Line). Each (λ (t : Token). IsTextToken t.what) l.tokens) lines

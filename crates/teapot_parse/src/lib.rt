@@ -14,5 +14,5 @@ mod reading;
 mod row;
 
 pub use count::Many;
-pub use laws::lines_nest;
+pub use laws::{given_lines_are_read, lines_nest, read_trees_are_given};
 pub use reading::{ParseError, parse};
