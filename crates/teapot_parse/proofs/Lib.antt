@@ -1,0 +1,17 @@
+pub mod Turns
+pub mod Runs
+pub mod Opens
+pub mod Judging
+pub mod Steps
+pub mod Builds
+pub mod Erasing
+pub mod Nests
+pub mod Limits
+pub mod Whole
+pub mod Again
+pub mod Goods
+pub mod Spelt
+pub mod Founds
+pub mod Bounds
+pub mod Words
+pub mod Found
