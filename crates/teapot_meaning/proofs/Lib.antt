@@ -1,0 +1,10 @@
+mod BareErrors
+mod Bounds
+mod Ends
+mod Handling
+mod JoinedErrors
+mod Lines
+mod Meanings
+mod Members
+mod Served
+mod Weights
