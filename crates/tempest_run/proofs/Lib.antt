@@ -1,3 +1,4 @@
+mod Determined
 mod Enumerating
 mod Running
 mod Splitting

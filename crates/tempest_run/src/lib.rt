@@ -3,12 +3,14 @@
 #![tactic(auto)]
 
 mod answer;
+mod laws;
 mod report;
 mod run;
 mod status;
 mod top;
 mod words;
 
+pub use laws::{report_has_the_prints, run_is_determined};
 pub use status::Status;
 pub use top::tempest_plain;
 pub use words::{Command, asked};
