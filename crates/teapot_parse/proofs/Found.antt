@@ -98,7 +98,7 @@ or-both : (o : Option Many) (line line' : ℕ) (r r' : Option (Many × ℕ)) →
 or-both None line line' r r' e k = k e
 or-both (Some x) line line' r r' e k = absurd cc
 
-over-back : (qs : Lines) (c : Counts) → first_over c (cut_lines qs) ≡ None → first_over c (cut_lines (map erased qs)) ≡ None
+pub over-back : (qs : Lines) (c : Counts) → first_over c (cut_lines qs) ≡ None → first_over c (cut_lines (map erased qs)) ≡ None
 unfolding first_over
 over-back [] c e = refl
 over-back (q ∷ qs) c e =
@@ -271,7 +271,7 @@ tree-of-lines p profile same which read limits shallow good no_loop =
       few_loops = each-map IsFew (λ (h : Handler). loops (body_of h.body) ≤ 4) (λ h x. x.1.1) (hs_of ss) few;
     }
 
-plains : (ss : List State) → Each IsReadState ss → Each (λ (h : Handler). Each IsShallow (exprs_of h)) (hs_of ss) → Each IsPlainState ss
+pub plains : (ss : List State) → Each IsReadState ss → Each (λ (h : Handler). Each IsShallow (exprs_of h)) (hs_of ss) → Each IsPlainState ss
 plains ss read shallow =
     let reads : Each (λ (s : State). Each IsRead s.handlers) ss = each-map IsReadState (λ (s : State). Each IsRead s.handlers) (λ s x. x.1) ss read in
     let two = each-both IsRead (λ (h : Handler). Each IsShallow (exprs_of h)) (hs_of ss) (all-handlers IsRead ss reads) shallow in
