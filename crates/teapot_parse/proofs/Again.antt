@@ -1,11 +1,10 @@
 -- The lines that a tree gives are read as that tree.
-use Rattle.std.proofs.Common.{◌≡◌, ◌≤◌, ℕ, Bool, true, false, cond, List, [], ◌∷◌, ◌++◌, length, map, Option, Some, None, Ok, refl, ap, sym, ◌∙◌, subst, inl, inr}
-use Rattle.std.specs.Prelude.{◌⊎◌, codes, ◌==◌}
+use Rattle.std.proofs.Common.{◌≡◌, ◌≤◌, ℕ, Bool, true, false, cond, List, [], ◌∷◌, length, map, Some, None, Ok, refl, ap, sym, ◌∙◌, subst, inl, inr}
+use Rattle.std.specs.Prelude.{◌⊎◌, codes}
 use Rattle.std.specs.List.{flat_map}
 use Rattle.std.specs.Str.{bytes_eq}
 use Rattle.std.proofs.lemmas.Slice.Eq.{bytes_eq-Decides}
 use Rattle.tw_base.specs.Lists.{Each}
-use Rattle.tw_base.specs.declared.name.Name.{Name}
 use Rattle.tw_lex.specs.declared.token.Line.{Line}
 use Rattle.tw_lex.specs.declared.token.Token.{Token}
 use Rattle.tw_lex.specs.declared.token.What.{What}
@@ -13,13 +12,12 @@ use Rattle.tw_lex.specs.declared.token.What.TheVariants as what
 use Rattle.teapot_tree.specs.declared.expr.Expr.{Expr}
 use Rattle.teapot_tree.specs.declared.keyword.Keyword.TheVariants as k
 use Rattle.teapot_tree.specs.declared.protocol.Handler.{Handler}
-use Rattle.teapot_tree.specs.declared.protocol.MessageDecl.{MessageDecl}
 use Rattle.teapot_tree.specs.declared.protocol.Protocol.{Protocol}
 use Rattle.teapot_tree.specs.declared.protocol.State.{State}
 use Rattle.teapot_tree.specs.Grammar.{IsTree, NoDefaultArgs, OnOneLine}
 use Rattle.teapot_tree.specs.Keywords.{keyword_of}
 use Rattle.teapot_tree.specs.Bodies.{body_of}
-use Rattle.teapot_tree.specs.Parts.{depth, eaches, exprs_of, handlers_of, loops, nest}
+use Rattle.teapot_tree.specs.Parts.{eaches, exprs_of, handlers_of, loops, nest}
 use Rattle.teapot_lines.specs.declared.form.Form.{Form}
 use Rattle.teapot_lines.specs.declared.form.Form.TheVariants as f
 use Rattle.teapot_lines.specs.Seen.{Seen, Key, Named, Number, seen, seen_what, seen_word}
@@ -29,7 +27,7 @@ use Rattle.teapot_parse.specs.Building.{built, no_parts}
 use Rattle.teapot_parse.specs.Counting.{no_counts, first_over}
 use Rattle.teapot_parse.specs.Given.{SpellAll, erased, IsGiven}
 use Rattle.teapot_parse.specs.Nesting.{judged, kinds}
-use Rattle.teapot_parse.specs.Parsing.{names_two, profile_of, nests, nests_if, within, within_if, whole, parsed}
+use Rattle.teapot_parse.specs.Parsing.{names_two, profile_of, whole, parsed}
 use Rattle.teapot_parse.specs.Trees.{Lines, lines_of}
 use Rattle.teapot_parse.proofs.Builds.{cut_lines, IsPlain, IsPlainState, IsShallow, each-parts, built-protocol}
 use Rattle.teapot_parse.proofs.Erasing.{erased-form, kind_at, kinds-at, kinds-erased, built-erased, over-erased, forms-again}

@@ -1,6 +1,5 @@
 -- What is read does not depend on the lines of Begin, End and Else.
-use Rattle.std.proofs.Common.{◌≡◌, ℕ, ◌+◌, List, [], ◌∷◌, ◌++◌, map, Option, Some, None, Ok, refl, ap, sym, ◌∙◌}
-use Rattle.tw_base.specs.Answers.{◌>>=◌}
+use Rattle.std.proofs.Common.{◌≡◌, ℕ, List, [], ◌∷◌, map, Option, Some, None, Ok, refl, ap, sym, ◌∙◌}
 use Rattle.tw_lex.specs.declared.token.Line.{Line}
 use Rattle.teapot_tree.specs.declared.expr.Expr.{Expr}
 use Rattle.teapot_lines.specs.declared.form.Form.{Form}
@@ -17,9 +16,9 @@ use Rattle.teapot_parse.specs.Building.{built_on, with_line}
 use Rattle.teapot_parse.specs.Counting.{counted, over, or_over, first_over}
 use Rattle.teapot_parse.specs.Given.{SpellAll, erased_at, erased}
 use Rattle.teapot_parse.specs.Nesting.{kind_of, kinds}
-use Rattle.teapot_parse.specs.Parsing.{forms_read, or_bad_line}
+use Rattle.teapot_parse.specs.Parsing.{forms_read}
 use Rattle.teapot_parse.specs.Trees.{Lines}
-use Rattle.teapot_parse.proofs.Builds.{cut_line, cut_lines}
+use Rattle.teapot_parse.proofs.Builds.{cut_lines}
 
 pub erased-form : (line : ℕ) (form : Form Expr) → (erased_at line form).1 ≡ form
 erased-form line f.Begin = refl

@@ -1,5 +1,5 @@
 -- What is read is a tree of the grammar, and the lines give it.
-use Rattle.std.proofs.Common.{◌≡◌, ◌≤◌, ℕ, Bool, true, false, cond, List, [], ◌∷◌, ◌++◌, length, map, Option, Some, None, Result, Ok, Err, IfSome, refl, ap, sym, ◌∙◌, subst, inl, inr}
+use Rattle.std.proofs.Common.{◌≡◌, ◌≤◌, ℕ, Bool, true, false, cond, List, [], ◌∷◌, length, map, Option, Some, None, Result, Ok, Err, IfSome, refl, ap, sym, ◌∙◌, subst, inl, inr}
 use Rattle.std.specs.Prelude.{◌⊎◌, ◌==◌, ◌&&◌, ◌||◌}
 use Rattle.std.specs.List.{flat_map, list_all}
 use Rattle.std.proofs.lemmas.Bool.{eqb-true}
@@ -16,12 +16,11 @@ use Rattle.teapot_tree.specs.declared.keyword.Keyword.TheVariants as k
 use Rattle.teapot_tree.specs.declared.protocol.Handler.{Handler}
 use Rattle.teapot_tree.specs.declared.protocol.Protocol.{Protocol}
 use Rattle.teapot_tree.specs.declared.protocol.State.{State}
-use Rattle.teapot_tree.specs.declared.protocol.Trigger.{Trigger}
 use Rattle.teapot_tree.specs.declared.protocol.Trigger.TheVariants as t
 use Rattle.teapot_tree.specs.Bodies.{body_of}
 use Rattle.teapot_tree.specs.Grammar.{IsTree, IsName, NoArgsOf, NoDefaultArgs, OnOneLine}
 use Rattle.teapot_tree.specs.Keywords.{keyword_of}
-use Rattle.teapot_tree.specs.Parts.{depth, eaches, exprs_of, fits, handlers_of, loops, names_in, names_of, nest}
+use Rattle.teapot_tree.specs.Parts.{eaches, exprs_of, fits, loops, names_in, names_of, nest}
 use Rattle.teapot_lines.specs.declared.cut.Cut.{Cut}
 use Rattle.teapot_lines.specs.declared.form.Form.{Form}
 use Rattle.teapot_lines.specs.declared.form.Form.TheVariants as f
@@ -30,7 +29,6 @@ use Rattle.teapot_lines.specs.Lines.{form_of}
 use Rattle.teapot_lines.specs.Spelling.{spelling, spelled_profile, fits_form, cut_form, IsForm}
 use Rattle.teapot_lines.proofs.Both.{both}
 use Rattle.teapot_lines.proofs.FormLaws.{form-found}
-use Rattle.teapot_parse.specs.declared.build.Parts.{Parts}
 use Rattle.teapot_parse.specs.declared.count.Counts.{Counts}
 use Rattle.teapot_parse.specs.declared.count.Many.{Many}
 use Rattle.teapot_parse.specs.declared.judge.Kind.{Kind}
@@ -45,10 +43,10 @@ use Rattle.teapot_parse.specs.Laws.{Judges}
 use Rattle.teapot_parse.specs.Nesting.{judged, kinds}
 use Rattle.teapot_parse.specs.Parsing.{names_two, names_two_in, profile_of, forms_read, or_bad_line, nests_if, within_if, whole, parsed}
 use Rattle.teapot_parse.specs.Shapes.{IsNested}
-use Rattle.teapot_parse.specs.Trees.{Lines, lines_of, handler_lines, state_lines}
+use Rattle.teapot_parse.specs.Trees.{Lines, lines_of}
 use Rattle.teapot_parse.proofs.Again.{each-map, each-both, each-flat}
 use Rattle.teapot_parse.proofs.Bounds.{all-shallow, IsFew, IsFewState, Limits, tree-bound}
-use Rattle.teapot_parse.proofs.Builds.{cut_line, cut_lines, IsPlain, IsPlainState, IsShallow, built-protocol}
+use Rattle.teapot_parse.proofs.Builds.{cut_lines, IsPlain, IsPlainState, IsShallow, built-protocol}
 use Rattle.teapot_parse.proofs.Erasing.{erased-form, kind_at, kinds-at, built-erased}
 use Rattle.teapot_parse.proofs.Founds.{IsRead, IsReadState, tree-found}
 use Rattle.teapot_parse.proofs.Goods.{ExprsAt, WordsAt, NoLoop, Known, form_exprs, form_words, handlers-each, protocol-parts, flat-each, exprs-good, loops-good, names-good}

@@ -1,5 +1,5 @@
 -- Lines that nest are those of a tree.
-use Rattle.std.proofs.Common.{◌≡◌, ℕ, zero, suc, ◌+◌, Bool, true, false, List, [], ◌∷◌, ◌++◌, length, map, Option, Some, None, refl, ap, sym, ◌∙◌, subst, append_assoc, append-nil, arith}
+use Rattle.std.proofs.Common.{◌≡◌, ℕ, zero, suc, List, [], ◌∷◌, ◌++◌, map, Option, refl, ap, sym, ◌∙◌, append_assoc}
 use Rattle.std.specs.List.{flat_map}
 use Rattle.tw_base.specs.Lists.{Each}
 use Rattle.tw_base.specs.declared.name.Name.{Name}
@@ -17,7 +17,6 @@ use Rattle.teapot_tree.specs.Bodies.{Simple, assign, send, send_all, set_tag, se
 use Rattle.teapot_tree.specs.Grammar.{NoArgsOf, NoDefaultArgs, OnOneLine}
 use Rattle.teapot_tree.specs.Parts.{eaches}
 use Rattle.teapot_tree.proofs.Iso.{body-tree}
-use Rattle.teapot_lines.specs.declared.form.Answers.{Answers}
 use Rattle.teapot_lines.specs.declared.form.Answers.TheVariants as a
 use Rattle.teapot_lines.specs.declared.form.Form.{Form}
 use Rattle.teapot_lines.specs.declared.form.Form.TheVariants as f
@@ -29,7 +28,7 @@ use Rattle.teapot_parse.specs.declared.judge.Kind.TheVariants as k
 use Rattle.teapot_parse.specs.Building.{param_at}
 use Rattle.teapot_parse.specs.Given.{erased_at, erased}
 use Rattle.teapot_parse.specs.Nesting.{kind_of}
-use Rattle.teapot_parse.specs.Shapes.{Body, done, plain, branch, branches, loop, Handlers, States, handler, state, Shape, times, of_body, of_handlers, of_states, of_shape, IsNested}
+use Rattle.teapot_parse.specs.Shapes.{Body, done, plain, branch, branches, loop, Handlers, States, handler, state, times, of_body, of_handlers, of_states, IsNested}
 use Rattle.teapot_parse.specs.Trees.{Lines, simple_form, body_lines, handler_form, handler_lines, local_line, state_lines, message_line, info_line, start_line, lines_of, typed_of}
 use Rattle.teapot_parse.proofs.Erasing.{kind_at}
 

@@ -1,5 +1,5 @@
 -- What holds of each line holds of the tree.
-use Rattle.std.proofs.Common.{◌≡◌, ◌≤◌, ℕ, zero, suc, ◌+◌, Bool, true, false, List, [], ◌∷◌, ◌++◌, length, map, Option, Some, None, refl, ap, sym, ◌∙◌, subst, append_assoc, append-nil, arith}
+use Rattle.std.proofs.Common.{◌≡◌, ℕ, List, [], ◌∷◌, ◌++◌, map, refl, sym, subst, arith}
 use Rattle.std.specs.List.{flat_map}
 use Rattle.tw_base.specs.Lists.{Each}
 use Rattle.tw_base.specs.declared.name.Name.{Name}
@@ -13,7 +13,7 @@ use Rattle.teapot_tree.specs.declared.protocol.State.{State}
 use Rattle.teapot_tree.specs.declared.protocol.Trigger.{Trigger}
 use Rattle.teapot_tree.specs.declared.protocol.Trigger.TheVariants as t
 use Rattle.teapot_tree.specs.Bodies.{Simple, assign, send, send_all, set_tag, set_state, suspend, resume, install, enqueue, wake_up, error, Body, done, plain, branch, branches, loop, each, body_of}
-use Rattle.teapot_tree.specs.Parts.{names_in, exprs_in, simple_exprs, simple_words, words_in, loops, eaches, exprs_of, handlers_of, trigger_words, option_words, handler_names, state_names, names_of}
+use Rattle.teapot_tree.specs.Parts.{names_in, exprs_in, simple_exprs, simple_words, words_in, loops, eaches, exprs_of, trigger_words, option_words, handler_names, state_names, names_of}
 use Rattle.teapot_lines.specs.declared.form.Answers.{Answers}
 use Rattle.teapot_lines.specs.declared.form.Answers.TheVariants as a
 use Rattle.teapot_lines.specs.declared.form.Form.{Form}

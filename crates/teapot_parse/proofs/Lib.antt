@@ -15,3 +15,4 @@ pub mod Founds
 pub mod Bounds
 pub mod Words
 pub mod Found
+pub mod Refusals

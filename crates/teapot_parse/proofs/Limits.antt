@@ -1,17 +1,12 @@
 -- The lines of a tree within the limits pass no limit.
-use Rattle.std.proofs.Common.{◌≡◌, ℕ, ◌+◌, ◌-◌, ◌≤◌, max, Bool, true, false, List, [], ◌∷◌, ◌++◌, length, map, Option, Some, None, refl, ap, sym, ◌∙◌, subst, append_assoc, append-nil, arith}
-use Rattle.std.specs.Prelude.{◌||◌}
+use Rattle.std.proofs.Common.{◌≡◌, ℕ, ◌+◌, ◌-◌, ◌≤◌, false, List, [], ◌∷◌, ◌++◌, length, map, None, refl, ap, sym, subst, append_assoc, arith}
 use Rattle.std.specs.List.{flat_map, list_any}
 use Rattle.std.proofs.lemmas.Bool.{le-ltb}
 use Rattle.tw_base.specs.Lists.{Each}
 use Rattle.tw_base.specs.declared.name.Name.{Name}
 use Rattle.teapot_tree.specs.declared.expr.Expr.{Expr}
 use Rattle.teapot_tree.specs.declared.protocol.Handler.{Handler}
-use Rattle.teapot_tree.specs.declared.protocol.MessageDecl.{MessageDecl}
 use Rattle.teapot_tree.specs.declared.protocol.Param.{Param}
-use Rattle.teapot_tree.specs.declared.protocol.Protocol.{Protocol}
-use Rattle.teapot_tree.specs.declared.protocol.Start.{Start}
-use Rattle.teapot_tree.specs.declared.protocol.State.{State}
 use Rattle.teapot_tree.specs.declared.protocol.Trigger.{Trigger}
 use Rattle.teapot_tree.specs.declared.protocol.Trigger.TheVariants as t
 use Rattle.teapot_tree.specs.Bodies.{Simple, assign, send, send_all, set_tag, set_state, suspend, resume, install, enqueue, wake_up, error, Body, done, plain, branch, branches, loop, each, body_of}
@@ -22,8 +17,8 @@ use Rattle.teapot_lines.specs.Cuts.{cut}
 use Rattle.teapot_lines.specs.Spelling.{cut_form}
 use Rattle.teapot_lines.proofs.Depths.{cut-within}
 use Rattle.teapot_parse.specs.declared.count.Counts.{Counts}
-use Rattle.teapot_parse.specs.Counting.{no_counts, counted, is_deep, over, first_over}
-use Rattle.teapot_parse.specs.Trees.{Lines, simple_form, body_lines, handler_form, handler_lines, local_line, state_lines, message_line, info_line, start_line, lines_of, typed_of}
+use Rattle.teapot_parse.specs.Counting.{counted, is_deep, over, first_over}
+use Rattle.teapot_parse.specs.Trees.{Lines, simple_form, body_lines, handler_form, handler_lines, local_line}
 use Rattle.teapot_parse.proofs.Builds.{cut_lines, IsShallow, each-parts}
 
 pub record Below (c d : Counts) : Type 0 where

@@ -1,5 +1,5 @@
 -- The lines of a tree nest.
-use Rattle.std.proofs.Common.{◌≡◌, ℕ, zero, suc, ◌+◌, List, [], ◌∷◌, ◌++◌, map, length, take, drop, refl, ap, sym, ◌∙◌, subst, append_assoc}
+use Rattle.std.proofs.Common.{◌≡◌, ℕ, ◌+◌, List, [], ◌∷◌, ◌++◌, map, length, drop, refl, ap, sym, ◌∙◌, subst, append_assoc}
 use Rattle.std.specs.List.{flat_map}
 use Rattle.std.proofs.lemmas.List.{map-append, take-append-drop}
 use Rattle.teapot_tree.specs.declared.protocol.Handler.{Handler}
@@ -20,7 +20,7 @@ use Rattle.teapot_parse.specs.declared.judge.Kind.{Kind}
 use Rattle.teapot_parse.specs.declared.judge.Kind.TheVariants as k
 use Rattle.teapot_parse.specs.Laws.{Judges}
 use Rattle.teapot_parse.specs.Nesting.{judged}
-use Rattle.teapot_parse.specs.Shapes.{Body, done, plain, branch, branches, loop, Handlers, States, handler, state, Shape, times, of_body, of_handlers, of_states, of_shape, IsNested, CanGoOn}
+use Rattle.teapot_parse.specs.Shapes.{Body, done, plain, branch, branches, loop, Handlers, States, handler, state, times, of_body, of_handlers, of_states, IsNested}
 use Rattle.teapot_parse.specs.Trees.{Lines, simple_form, body_lines, handler_form, handler_lines, local_line, state_lines, message_line, info_line, start_line, lines_of}
 use Rattle.teapot_parse.proofs.Erasing.{kind_at}
 use Rattle.teapot_parse.proofs.Judging.{judges-is}

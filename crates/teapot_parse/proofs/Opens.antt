@@ -8,7 +8,7 @@ use Rattle.teapot_parse.specs.declared.judge.Block.TheVariants.{First, Other}
 use Rattle.teapot_parse.specs.declared.judge.Place.{Place}
 use Rattle.teapot_parse.specs.declared.judge.Place.TheVariants as p
 use Rattle.teapot_parse.specs.Nesting.{At, next_of, body_next, closed_by, is_end}
-use Rattle.teapot_parse.specs.Shapes.{Body, done, plain, branch, branches, loop, Handlers, States, handler, state, Shape, times, of_body, of_handlers, of_states, of_shape, IsNested, CanGoOn}
+use Rattle.teapot_parse.specs.Shapes.{Body, done, plain, branch, branches, loop, Handlers, States, handler, state, times, of_body, of_handlers, of_states, IsNested, CanGoOn}
 
 -- further states, handlers or statements may follow
 abbrev InStates : List Kind → Type 0

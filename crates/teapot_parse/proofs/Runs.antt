@@ -7,7 +7,7 @@ use Rattle.teapot_parse.specs.declared.judge.Block.TheVariants.{First, Other}
 use Rattle.teapot_parse.specs.declared.judge.Place.{Place}
 use Rattle.teapot_parse.specs.declared.judge.Place.TheVariants as p
 use Rattle.teapot_parse.specs.Nesting.{At, next_of, closed_by, is_end}
-use Rattle.teapot_parse.specs.Shapes.{Body, done, plain, branch, branches, loop, Handlers, States, handler, state, Shape, times, of_body, of_handlers, of_states, of_shape, IsNested}
+use Rattle.teapot_parse.specs.Shapes.{Body, done, plain, branch, branches, loop, Handlers, States, handler, state, times, of_body, of_handlers, of_states, IsNested}
 
 abbrev pub led : Option At → (List Block → Place → Option At) → Option At
 led None on = None

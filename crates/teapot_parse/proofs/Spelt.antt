@@ -1,5 +1,5 @@
 -- The names of a form are names among its tokens.
-use Rattle.std.proofs.Common.{◌≡◌, ℕ, Bool, true, false, cond, List, [], ◌∷◌, ◌++◌, map, Option, Some, None, refl, ap, sym, ◌∙◌, subst}
+use Rattle.std.proofs.Common.{◌≡◌, List, [], ◌∷◌, ◌++◌, map, Option, Some, None, sym, subst}
 use Rattle.tw_base.specs.Lists.{Each}
 use Rattle.tw_base.specs.declared.name.Name.{Name}
 use Rattle.tw_lex.specs.declared.token.Mark.TheVariants as m
@@ -13,7 +13,7 @@ use Rattle.teapot_lines.specs.declared.form.Form.{Form}
 use Rattle.teapot_lines.specs.declared.form.Form.TheVariants as f
 use Rattle.teapot_lines.specs.declared.form.Typed.{Typed}
 use Rattle.teapot_lines.specs.Exprs.{spelled, spelled_step, Way, Infix, Before, way, two_spelled}
-use Rattle.teapot_lines.specs.Parts.{tails, spelled_list, spelled_type, spelled_param, spelled_name, spelled_answers}
+use Rattle.teapot_lines.specs.Parts.{tails, spelled_list, spelled_param, spelled_name, spelled_answers}
 use Rattle.teapot_lines.specs.Seen.{Seen, Key, Named, Number, Marked}
 use Rattle.teapot_lines.specs.Spelling.{spelling, spelled_cont}
 use Rattle.teapot_lines.proofs.Spells.{spelled-roll}

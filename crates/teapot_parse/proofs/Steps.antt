@@ -16,7 +16,7 @@ use Rattle.teapot_parse.specs.declared.count.Many.{Many}
 use Rattle.teapot_parse.specs.declared.reading.ParseError.{ParseError}
 use Rattle.teapot_parse.specs.declared.reading.ParseError.TheVariants.{BadLine}
 use Rattle.teapot_parse.specs.declared.placed.Placed.{Placed}
-use Rattle.teapot_parse.specs.Parsing.{forms_read, or_bad_line}
+use Rattle.teapot_parse.specs.Parsing.{forms_read}
 use Rattle.teapot_parse.specs.Counting.{counted, over, first_over}
 use Rattle.teapot_parse.specs.Building.{built_on, with_line}
 

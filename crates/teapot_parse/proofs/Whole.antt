@@ -1,5 +1,5 @@
 -- The lines that give a tree within the limits are read as that tree.
-use Rattle.std.proofs.Common.{◌≡◌, ℕ, ◌+◌, ◌≤◌, Bool, true, false, List, [], ◌∷◌, ◌++◌, length, map, Option, Some, None, Ok, refl, ap, sym, ◌∙◌, subst, append_assoc, append-nil, arith}
+use Rattle.std.proofs.Common.{◌≡◌, ℕ, ◌+◌, ◌≤◌, List, [], ◌∷◌, ◌++◌, length, map, None, refl, sym, subst, append_assoc, arith}
 use Rattle.std.specs.List.{flat_map}
 use Rattle.std.proofs.lemmas.Bool.{le-ltb}
 use Rattle.std.proofs.lemmas.List.{length-append, length-map}
@@ -11,9 +11,8 @@ use Rattle.teapot_tree.specs.declared.protocol.Protocol.{Protocol}
 use Rattle.teapot_tree.specs.declared.protocol.Start.{Start}
 use Rattle.teapot_tree.specs.declared.protocol.State.{State}
 use Rattle.teapot_lines.specs.declared.form.Form.TheVariants as f
-use Rattle.teapot_lines.specs.Spelling.{cut_form}
 use Rattle.teapot_parse.specs.declared.count.Counts.{Counts}
-use Rattle.teapot_parse.specs.Counting.{no_counts, counted, over, first_over}
+use Rattle.teapot_parse.specs.Counting.{no_counts, first_over}
 use Rattle.teapot_parse.specs.Trees.{Lines, handler_lines, state_lines, message_line, info_line, start_line, lines_of, typed_of}
 use Rattle.teapot_parse.proofs.Builds.{cut_lines}
 use Rattle.teapot_parse.proofs.Limits.{Below, Passes, Loose, IsWithin, pass-plain, pass-begin, pass-end, pass-handlers}

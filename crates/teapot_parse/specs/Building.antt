@@ -1,5 +1,5 @@
 -- The tree that lines give, from the last line to the first.
-use Rattle.std.specs.Prelude.{ℕ, Bool, true, false, if◌then◌else◌, List, [], ◌∷◌, map, Option, Some, None}
+use Rattle.std.specs.Prelude.{ℕ, true, false, if◌then◌else◌, List, [], ◌∷◌, map, Option, Some, None}
 use Rattle.tw_base.specs.declared.name.Name.{Name}
 use Rattle.teapot_tree.specs.declared.expr.Expr.{Expr}
 use Rattle.teapot_tree.specs.declared.expr.Expr.TheVariants as e

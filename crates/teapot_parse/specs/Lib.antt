@@ -4,5 +4,6 @@ pub mod Given
 pub mod Laws
 pub mod Nesting
 pub mod Parsing
+pub mod Refusing
 pub mod Shapes
 pub mod Trees

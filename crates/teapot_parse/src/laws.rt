@@ -6,7 +6,9 @@ ghost use Rattle.teapot_parse.specs.declared.judge.Kind.{Kind};
 ghost use Rattle.teapot_parse.specs.Nesting.{judged};
 ghost use Rattle.teapot_parse.specs.Given.{IsGiven, AreTextLines};
 ghost use Rattle.teapot_parse.specs.Laws.{Judges};
+ghost use Rattle.teapot_parse.specs.declared.reading.ParseError.{ParseError};
 ghost use Rattle.teapot_parse.specs.Parsing.{parsed};
+ghost use Rattle.teapot_parse.specs.Refusing.{Refuses};
 
 /// Lines nest exactly where they are those of a protocol. Else the line that is named is the first such that the
 /// lines up to it are the front of no list that nests, or only the end is missing.
@@ -22,4 +24,10 @@ pub fn given_lines_are_read()
 /// What is read from the lines of a text is a tree of the grammar, and the lines spell its forms in its order.
 pub fn read_trees_are_given()
     ensures { (lines : List Line) (p : Protocol) (after : ℕ) → AreTextLines lines → parsed lines after ≡ Ok p → IsTree p × IsGiven lines p }
+{}
+
+/// What each refusal says: the first line of no form; else the first line up to which the lines are the front of no
+/// list that nests, or that only the end is missing; else the first line at which a count passes its limit.
+pub fn refusals_are_first()
+    ensures { (lines : List Line) (after : ℕ) (e : ParseError) → parsed lines after ≡ Err e → Refuses lines after e }
 {}

@@ -14,5 +14,5 @@ mod reading;
 mod row;
 
 pub use count::Many;
-pub use laws::{given_lines_are_read, lines_nest, read_trees_are_given};
+pub use laws::{given_lines_are_read, lines_nest, read_trees_are_given, refusals_are_first};
 pub use reading::{ParseError, parse};

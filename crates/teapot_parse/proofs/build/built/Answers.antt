@@ -1,4 +1,4 @@
-use Rattle.std.proofs.Common.{◌≡◌, ap, sym, ◌∙◌}
+use Rattle.std.proofs.Common.{ap, sym, ◌∙◌}
 use Rattle.teapot_parse.specs.Building.{built_on, built}
 use Rattle.teapot_parse.proofs.Steps.{built-last}
 use Rattle.teapot_parse.proofs.build.built.Goals as goal

@@ -1,6 +1,6 @@
-use Rattle.std.proofs.Common.{◌≡◌, ◌+◌, Some, None, ap, sym, ◌∙◌, subst, arith}
+use Rattle.std.proofs.Common.{ap, sym, ◌∙◌, arith}
 use Rattle.teapot_parse.specs.declared.count.Counts.{Counts}
-use Rattle.teapot_parse.specs.Counting.{over, first_over}
+use Rattle.teapot_parse.specs.Counting.{over}
 use Rattle.teapot_parse.proofs.Steps.{over-on, over-here, over-end}
 use Rattle.teapot_parse.proofs.count.first_over.Goals as goal
 

@@ -1,4 +1,4 @@
-use Rattle.std.proofs.Common.{◌≡◌, ◌++◌, drop}
+use Rattle.std.proofs.Common.{◌≡◌, drop}
 use Rattle.teapot_parse.specs.Parsing.{forms_read}
 use Rattle.teapot_parse.proofs.Steps.{after_forms}
 use Rattle.teapot_parse.proofs.reading.forms_read.Given as goal
