@@ -1,3 +1,0 @@
-pub mod Bares
-pub mod Firsts
-pub mod Iso
