@@ -1,5 +1,5 @@
 -- A text has no more lines than bytes.
-use Rattle.std.proofs.Common.{◌≡◌, ℕ, ◌+◌, ◌≤◌, Bool, true, false, List, [], ◌∷◌, length, Result, Ok, Err, refl, sym, ap, subst, cond, arith}
+use Rattle.std.proofs.Common.{◌≡◌, ℕ, ◌+◌, ◌≤◌, Bool, true, false, List, [], ◌∷◌, length, Result, Ok, Err, ap, subst, cond, arith}
 use Rattle.std.specs.List.{onto_first}
 use Rattle.tw_base.specs.Answers.{◌>>=◌}
 use Rattle.tw_lex.specs.declared.token.Line.{Line}

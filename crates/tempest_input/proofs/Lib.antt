@@ -1,5 +1,11 @@
 mod Counting
+mod Cuts
 mod Fronts
 mod Gathering
+mod Misfits
+mod NoMemory
+mod Parts
+mod Refusals
 mod Valid
 mod Walking
+mod Whole

@@ -1,14 +1,11 @@
 -- What a setup keeps: a program for each node, and words that are given once.
-use Rattle.std.proofs.Common.{◌≡◌, ℕ, zero, suc, ◌+◌, ◌<◌, ◌≤◌, Bool, true, false, not, List, [], ◌∷◌, ◌++◌, length, Result, Ok, Err, refl, sym, ap, subst, ◌∙◌, arith, nat_lt}
+use Rattle.std.proofs.Common.{◌≡◌, ℕ, zero, suc, ◌<◌, Bool, true, false, not, List, [], ◌∷◌, ◌++◌, length, Ok, refl, sym, subst, arith, nat_lt}
 use Rattle.std.proofs.lemmas.Bool.{eqb-false, ltb-true}
 use Rattle.std.proofs.lemmas.List.{length-append}
 use Rattle.std.specs.Prelude.{◌==◌, ◌||◌}
-use Rattle.std.specs.List.{list_any}
-use Rattle.tw_base.specs.Lists.{Each}
 use Rattle.tw_base.specs.Answers.{◌>>=◌}
 use Rattle.mini_asm.specs.Run.{IsApart, IsInit}
 use Rattle.tempest_input.specs.declared.layout.Init.{Init}
-use Rattle.tempest_input.specs.declared.error.InputError.{InputError}
 use Rattle.tempest_input.specs.declared.error.Why.TheVariants.{OutOfRange, Repeated}
 use Rattle.tempest_input.specs.Numbers.{is_given, unless, word_in, words_of}
 use Rattle.tempest_input.specs.Settings.{each_below}

@@ -5,34 +5,35 @@ use Rattle.tw_base.specs.Answers.{◌>>=◌, Fails}
 use Rattle.tw_base.proofs.Answering.{Fails-along}
 use Rattle.tw_lex.specs.declared.token.Line.{Line}
 use Rattle.tempest_input.specs.declared.layout.Init.{Init}
+use Rattle.tempest_input.specs.declared.layout.Body.{Body}
 use Rattle.tempest_input.specs.declared.layout.Section.{Section}
 use Rattle.tempest_input.specs.declared.error.InputError.{InputError}
 use Rattle.tempest_input.specs.Heads.{head_of}
-use Rattle.tempest_input.specs.Layout.{body_in, init_in, inits_in, next_as, with_init, is_end, is_memory, misfit, next_init, next_node, section_in, sections_below}
-use Rattle.tempest_input.proofs.Fronts.{before, before-regroup, regroup, with_front}
+use Rattle.tempest_input.specs.Layout.{body_in, init_in, inits_in, next_as, with_init, is_end, is_memory, misfit, next_init, next_node, section_in, sections_below, with_line}
+use Rattle.tempest_input.proofs.Fronts.{before, before-regroup, regroup, regroup-lines, with_front, with_lines}
 
 -- ---- the lines of a section
 
-pub body-turn : (front : List Line) (all : ℕ) (lines rest : List Line) (l : Line) (total : Result (List Line × List Line) InputError) → lines ≡ l ∷ rest → is_end (head_of l.tokens) ≡ false
-    → with_front front (body_in all lines) ≡ total → with_front (front ++ l ∷ []) (body_in all rest) ≡ total
+pub body-turn : (front : List Line) (all : ℕ) (lines rest : List Line) (l : Line) (total : Result (Body × List Line) InputError) → lines ≡ l ∷ rest → is_end (head_of l.tokens) ≡ false
+    → with_lines front (body_in all lines) ≡ total → with_lines (front ++ l ∷ []) (body_in all rest) ≡ total
 unfolding body_in
 body-turn front all lines rest l total e f so_far =
-    let one : body_in all lines ≡ (body_in all rest >>= λ b. Ok (l ∷ b.0, b.1)) = rw (e, f) refl in
-    sym (regroup front l (body_in all rest)) ∙ ap (with_front front) (sym one) ∙ so_far
+    let one : body_in all lines ≡ (body_in all rest >>= λ b. Ok (with_line l b)) = rw (e, f) refl in
+    sym (regroup-lines front l (body_in all rest)) ∙ ap (with_lines front) (sym one) ∙ so_far
 
-pub body-end : (front : List Line) (all : ℕ) (lines rest : List Line) (l : Line) (total : Result (List Line × List Line) InputError) → lines ≡ l ∷ rest → is_end (head_of l.tokens) ≡ true
-    → with_front front (body_in all lines) ≡ total → total ≡ Ok (front, rest)
+pub body-end : (front : List Line) (all : ℕ) (lines rest : List Line) (l : Line) (total : Result (Body × List Line) InputError) → lines ≡ l ∷ rest → is_end (head_of l.tokens) ≡ true
+    → with_lines front (body_in all lines) ≡ total → total ≡ Ok (record { lines = front; end = l.number }, rest)
 unfolding body_in
 body-end front all lines rest l total e f so_far =
-    let one : body_in all lines ≡ Ok ([], rest) = rw (e, f) refl in
-    sym so_far ∙ ap (with_front front) one ∙ ap Ok (λ j. (append-nil front j, rest))
+    let one : body_in all lines ≡ Ok (record { lines = []; end = l.number }, rest) = rw (e, f) refl in
+    sym so_far ∙ ap (with_lines front) one ∙ ap Ok (λ j. (record { lines = append-nil front j; end = l.number }, rest))
 
-pub body-none : (front : List Line) (all : ℕ) (lines : List Line) (total : Result (List Line × List Line) InputError) → lines ≡ [] → with_front front (body_in all lines) ≡ total
+pub body-none : (front : List Line) (all : ℕ) (lines : List Line) (total : Result (Body × List Line) InputError) → lines ≡ [] → with_lines front (body_in all lines) ≡ total
     → total ≡ Err (misfit all [])
 unfolding body_in
 body-none front all lines total e so_far =
     let one : body_in all lines ≡ Err (misfit all []) = rw e refl in
-    sym so_far ∙ ap (with_front front) one
+    sym so_far ∙ ap (with_lines front) one
 
 -- ---- words at the start
 

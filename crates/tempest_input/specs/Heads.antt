@@ -1,5 +1,5 @@
 -- The lines of the layout: what a line outside of the sections says.
-use Rattle.std.specs.Prelude.{ℕ, if◌then◌else◌, codes, List, [], ◌∷◌, Option, Some, None}
+use Rattle.std.specs.Prelude.{ℕ, if◌then◌else◌, codes, List, [], ◌∷◌}
 use Rattle.std.specs.Str.{bytes_eq}
 use Rattle.tw_lex.specs.declared.token.What.{What}
 use Rattle.tw_lex.specs.declared.token.What.TheVariants as whats

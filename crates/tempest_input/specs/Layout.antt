@@ -8,6 +8,7 @@ use Rattle.tempest_input.specs.declared.head.Field.{Field}
 use Rattle.tempest_input.specs.declared.head.Field.TheVariants.{Version, Nodes, Words, Blocks, Budget}
 use Rattle.tempest_input.specs.declared.layout.Numbered.{Numbered}
 use Rattle.tempest_input.specs.declared.layout.Init.{Init}
+use Rattle.tempest_input.specs.declared.layout.Body.{Body}
 use Rattle.tempest_input.specs.declared.layout.Section.{Section}
 use Rattle.tempest_input.specs.declared.layout.Choice.{Choice}
 use Rattle.tempest_input.specs.declared.layout.Choice.TheVariants as choices
@@ -98,12 +99,16 @@ inits_in (l ∷ ls) = with_init (init_in l.number (head_of l.tokens)) l ls (init
 
 -- ---- sections
 
--- the lines up to the first that is `end` alone, and those after it
-abbrev pub body_as : Bool → Line → List Line → Result (List Line × List Line) InputError → Result (List Line × List Line) InputError
-body_as true l ls rest = Ok ([], ls)
-body_as false l ls rest = rest >>= λ b. Ok (l ∷ b.0, b.1)
+-- a line before the others of a section
+abbrev pub with_line : Line → Body × List Line → Body × List Line
+with_line l b = (record { lines = l ∷ b.0.lines; end = b.0.end }, b.1)
 
-unfoldable pub body_in : ℕ → List Line → Result (List Line × List Line) InputError
+abbrev pub body_as : Bool → Line → List Line → Result (Body × List Line) InputError → Result (Body × List Line) InputError
+body_as true l ls rest = Ok (record { lines = []; end = l.number }, ls)
+body_as false l ls rest = rest >>= λ b. Ok (with_line l b)
+
+-- the lines up to the first that is `end` alone, the number of that one, and the lines after it
+unfoldable pub body_in : ℕ → List Line → Result (Body × List Line) InputError
 body_in all [] = Err (misfit all [])
 body_in all (l ∷ ls) = body_as (is_end (head_of l.tokens)) l ls (body_in all ls)
 

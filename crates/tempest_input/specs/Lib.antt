@@ -1,4 +1,5 @@
 pub mod Heads
+pub mod Laws
 pub mod Layout
 pub mod Numbers
 pub mod Settings

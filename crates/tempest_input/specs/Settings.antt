@@ -46,7 +46,7 @@ in_program (Err (assembly.NoLabel line)) = Err (Refused line why.NoLabel)
 in_program (Err assembly.Memory) = Err Memory
 
 abbrev pub program_in : ℕ → List (List Instr) → Section → Result (List Instr) InputError
-program_in version done s = in_program (program_of version s.body)
+program_in version done s = in_program (program_of version s.body.lines)
 
 -- the programs of the sections, in their order
 abbrev pub parsed : ℕ → List Section → Result (List (List Instr)) InputError

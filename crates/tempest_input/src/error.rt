@@ -20,6 +20,34 @@ pub enum Why {
     TooLong,
     LabelTwice,
     NoLabel,
+    /// A line of a protocol that cannot stand at its place.
+    BadNest,
+    /// More of something in a protocol than it may have.
+    TooMany,
+    /// A name in a protocol that is not declared, or not visible there.
+    Undeclared,
+    /// A second declaration of what is declared once.
+    Twice,
+    /// An operator, a statement or an argument that takes no value of this type.
+    WrongType,
+    /// More or fewer arguments than are declared.
+    ArgCount,
+    /// A state with no handler for all else.
+    NoDefault,
+    /// A continuation that is dropped.
+    ContDropped,
+    /// A resumption that something follows.
+    ResumeNotLast,
+    /// A resumption of a continuation that is not that of the handler's state.
+    ResumeForeign,
+    /// The message at hand is deferred or installed after a suspension.
+    AfterSuspend,
+    /// An installation of data that did not come with the message.
+    NoData,
+    /// A handler that may send more messages than it may.
+    TooManySends,
+    /// A protocol that has not one start of each kind.
+    NotTwoStarts,
     /// A text that is allowed and not served yet.
     NotYet,
 }

@@ -23,12 +23,19 @@ pub struct Init {
     pub value: u64,
 }
 
-/// The program of a node: its line, and the lines up to its `end`.
+/// The lines of a section, and the number of its `end`.
+#[derive(Debug, Drop)]
+pub struct Body {
+    pub lines: Listed<Line>,
+    pub end: u32,
+}
+
+/// The program of a node: its line, and what stands in its section.
 #[derive(Debug, Drop)]
 pub struct Section {
     pub line: u32,
     pub node: u64,
-    pub body: Listed<Line>,
+    pub body: Body,
 }
 
 /// Which protocol a text has.
@@ -36,8 +43,8 @@ pub struct Section {
 pub enum Choice {
     /// The text says nothing.
     Default,
-    /// The line of its section, and the lines up to its `end`.
-    Own(u32, Listed<Line>),
+    /// The line of its section, and what stands in it.
+    Own(u32, Body),
     /// The line that names it.
     Shipped(u32, Shipped),
 }
@@ -145,14 +152,17 @@ fn inits_in(alloc: Global, lines: &mut Stack<Line>) -> Result<Listed<Init>, Memo
 }
 
 // The lines up to the first that is `end` alone, which is taken too.
-fn body_in(alloc: Global, all: u32, lines: &mut Stack<Line>) -> Result<Listed<Line>, InputError>
+fn body_in(alloc: Global, all: u32, lines: &mut Stack<Line>) -> Result<Body, InputError>
     requires { all + 1 < 2 ^ 32 }
     ensures { Steps result lines.new (body_in all lines.old) }
 {
     let mut body = Vec::new(alloc);
     while let Some(line) = lines.pop() {
         if is_end(head_of(line.tokens.items())) {
-            return Ok(Listed::of(body));
+            return Ok(Body {
+                lines: Listed::of(body),
+                end: line.number,
+            });
         }
         body.push(line)?;
     }

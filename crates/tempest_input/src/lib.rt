@@ -3,12 +3,14 @@
 
 mod error;
 mod head;
+mod laws;
 mod layout;
 mod numbers;
 mod setup;
 
 pub use error::{InputError, Why};
 pub use head::{Field, Head, Shipped, head_of};
-pub use layout::{Choice, Init, Layout, Numbered, Section, laid_out};
+pub use laws::{input_is_valid_or_refused, layout_is_read_both_ways, misfit_is_first};
+pub use layout::{Body, Choice, Init, Layout, Numbered, Section, laid_out};
 pub use numbers::{nodes_of, shape_of, words_of};
-pub use setup::{Setup, layout_of, settings_of};
+pub use setup::{Setup, layout_of, lexed, settings_of};

@@ -80,7 +80,8 @@ fn refused(line: u32, why: Why) -> InputError
     InputError::Refused { line, why }
 }
 
-fn lexed(alloc: Global, text: &[u8]) -> Result<Lexed, InputError>
+/// The lines of a text that have tokens, and the number of all.
+pub fn lexed(alloc: Global, text: &[u8]) -> Result<Lexed, InputError>
     requires { length text.now + 1 < 2 ^ 32 }
     ensures value { Gives is_memory (λ found. found) result (in_line (lexed text.now)) }
     ensures count { IfOk result (λ found. found.all ≤ length text.now + 1) }
@@ -104,9 +105,9 @@ pub fn layout_of(alloc: Global, text: &[u8]) -> Result<Layout, InputError>
 }
 
 fn program_in(alloc: Global, version: u8, section: &Section) -> Result<Program, InputError>
-    ensures { Gives is_memory (λ p. p) result (in_program (program_of version section.now.body)) }
+    ensures { Gives is_memory (λ p. p) result (in_program (program_of version section.now.body.lines)) }
 {
-    match parse_program(alloc, section.body.items(), version) {
+    match parse_program(alloc, section.body.lines.items(), version) {
         Ok(program) => Ok(program),
         Err(ProgramError::BadLine { line }) => Err(refused(line, Why::BadLine)),
         Err(ProgramError::TooLong { line }) => Err(refused(line, Why::TooLong)),

@@ -1,4 +1,3 @@
-use Rattle.std.proofs.Common.{◌≡◌, sym, ◌∙◌}
 use Rattle.tempest_input.proofs.Walking.{body-turn, body-end, body-none}
 use Rattle.tempest_input.proofs.layout.body_in.Goals as goal
 

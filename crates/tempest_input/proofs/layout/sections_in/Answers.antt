@@ -1,4 +1,4 @@
-use Rattle.std.proofs.Common.{◌≡◌, arith, sym, ◌∙◌}
+use Rattle.std.proofs.Common.{arith, sym, ◌∙◌}
 use Rattle.std.proofs.lemmas.Result.{err_from_is_err_and}
 use Rattle.tempest_input.proofs.Walking.{sections-turn, sections-end, sections-most, sections-fault}
 use Rattle.tempest_input.proofs.layout.sections_in.Goals as goal

@@ -1,4 +1,3 @@
-use Rattle.std.proofs.lemmas.List.{drop_more}
 use Rattle.std.proofs.lemmas.Result.{err_from_is_err_and}
 use Rattle.tempest_input.specs.Numbers.{node_in}
 use Rattle.tempest_input.proofs.Gathering.{gathered-turn, gathered-fault, gathered-end, next-of}

@@ -1,7 +1,7 @@
 use Rattle.std.proofs.lemmas.List.{drop_more}
 use Rattle.std.proofs.lemmas.Result.{err_from_is_err_and}
 use Rattle.tempest_input.specs.Numbers.{word_in}
-use Rattle.tempest_input.proofs.Gathering.{gathered-turn, gathered-fault, gathered-end, next-of}
+use Rattle.tempest_input.proofs.Gathering.{gathered-turn, gathered-fault, gathered-end}
 use Rattle.tempest_input.proofs.numbers.words_of.Goals as goal
 
 pub returns-in_err-word_in : goal.returns-in_err-word_in
