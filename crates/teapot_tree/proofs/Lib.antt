@@ -1,0 +1,3 @@
+pub mod Bares
+pub mod Firsts
+pub mod Iso

@@ -1,0 +1,6 @@
+use Rattle.std.proofs.Common.{◌≡◌, map, take}
+use Rattle.teapot_tree.specs.Bare.{bare_message}
+use Rattle.teapot_tree.proofs.compare.same_messages.Given as goal
+
+abbrev pub invariant-loop-at : goal.invariant-loop-at
+invariant-loop-at l = map bare_message (take l.at l.a) ≡ map bare_message (take l.at l.b)
