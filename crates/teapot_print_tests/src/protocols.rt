@@ -1,0 +1,445 @@
+//! Protocols in their canonical spelling.
+
+pub const CANONICAL: [&[u8]; 7] = [STACHE, DEAF, PING_PONG, DOUBLE, DEEP, DROP, WALK];
+
+const STACHE: &[u8] = b"Protocol Stache
+Message GET_RO() 0
+Message GET_RW() 0
+Message DATA_RO() 1 data
+Message DATA_RW() 1 data
+Message PUT() 1 data
+Message INV() 1
+Message ACK() 1
+Message RECALL() 1
+Info sharers Set
+Info owner Node
+Info acks Int
+HomeStart Home_RW ReadWrite
+CacheStart Cache_Inv Invalid
+State Home_RW{}
+Begin
+  On GET_RO()
+  Begin
+    sharers := One(src)
+    SetTag(ReadOnly)
+    Send(src, DATA_RO)
+    SetState(Home_RO{})
+  End
+  On GET_RW()
+  Begin
+    owner := src
+    SetTag(Invalid)
+    Send(src, DATA_RW)
+    SetState(Home_Excl{})
+  End
+  Default
+  Begin
+    Error(Unexpected)
+  End
+End
+State Home_RO{}
+Begin
+  On RD_FAULT()
+  Begin
+    WakeUp
+  End
+  On WR_FAULT()
+  Begin
+    acks := Count(sharers)
+    SendAll(sharers, INV)
+    sharers := Empty
+    Suspend(L, Home_Acks{; L})
+    SetTag(ReadWrite)
+    WakeUp
+    SetState(Home_RW{})
+  End
+  On GET_RO()
+  Begin
+    sharers := With(sharers, src)
+    Send(src, DATA_RO)
+  End
+  On GET_RW()
+  Begin
+    sharers := Without(sharers, src)
+    acks := Count(sharers)
+    If (0 < acks)
+    Begin
+      SendAll(sharers, INV)
+      sharers := Empty
+      Suspend(L, Home_Acks{; L})
+    End
+    owner := src
+    SetTag(Invalid)
+    Send(src, DATA_RW)
+    SetState(Home_Excl{})
+  End
+  Default
+  Begin
+    Error(Unexpected)
+  End
+End
+State Home_Excl{}
+Begin
+  On RD_FAULT()
+  Begin
+    Send(owner, RECALL)
+    Suspend(L, Home_Put{; L})
+    SetTag(ReadWrite)
+    WakeUp
+    SetState(Home_RW{})
+  End
+  On WR_FAULT()
+  Begin
+    Send(owner, RECALL)
+    Suspend(L, Home_Put{; L})
+    SetTag(ReadWrite)
+    WakeUp
+    SetState(Home_RW{})
+  End
+  On GET_RO()
+  Begin
+    Send(owner, RECALL)
+    Suspend(L, Home_Put{; L})
+    sharers := One(src)
+    SetTag(ReadOnly)
+    Send(src, DATA_RO)
+    SetState(Home_RO{})
+  End
+  On GET_RW()
+  Begin
+    Send(owner, RECALL)
+    Suspend(L, Home_Put{; L})
+    owner := src
+    Send(src, DATA_RW)
+    SetState(Home_Excl{})
+  End
+  Default
+  Begin
+    Error(Unexpected)
+  End
+End
+State Home_Acks{; C}
+Begin
+  On ACK()
+  Begin
+    acks := (acks - 1)
+    If (acks = 0)
+    Begin
+      Resume(C)
+    End
+  End
+  Default
+  Begin
+    Enqueue
+  End
+End
+State Home_Put{; C}
+Begin
+  On PUT()
+  Begin
+    Install
+    Resume(C)
+  End
+  Default
+  Begin
+    Enqueue
+  End
+End
+State Cache_Inv{}
+Begin
+  On RD_FAULT()
+  Begin
+    Send(home, GET_RO)
+    Suspend(L, Cache_Wait_RO{; L})
+    WakeUp
+    SetState(Cache_RO{})
+  End
+  On WR_FAULT()
+  Begin
+    Send(home, GET_RW)
+    Suspend(L, Cache_Wait_RW{; L})
+    WakeUp
+    SetState(Cache_RW{})
+  End
+  Default
+  Begin
+    Error(Unexpected)
+  End
+End
+State Cache_RO{}
+Begin
+  On WR_FAULT()
+  Begin
+    SetTag(Invalid)
+    Send(home, GET_RW)
+    Suspend(L, Cache_Wait_RW{; L})
+    WakeUp
+    SetState(Cache_RW{})
+  End
+  On INV()
+  Begin
+    SetTag(Invalid)
+    Send(src, ACK)
+    SetState(Cache_Inv{})
+  End
+  Default
+  Begin
+    Error(Unexpected)
+  End
+End
+State Cache_RW{}
+Begin
+  On RECALL()
+  Begin
+    SetTag(Invalid)
+    Send(src, PUT)
+    SetState(Cache_Inv{})
+  End
+  Default
+  Begin
+    Error(Unexpected)
+  End
+End
+State Cache_Wait_RO{; C}
+Begin
+  On DATA_RO()
+  Begin
+    Install
+    SetTag(ReadOnly)
+    Resume(C)
+  End
+  Default
+  Begin
+    Error(Unexpected)
+  End
+End
+State Cache_Wait_RW{; C}
+Begin
+  On DATA_RW()
+  Begin
+    Install
+    SetTag(ReadWrite)
+    Resume(C)
+  End
+  On INV()
+  Begin
+    Send(src, ACK)
+  End
+  Default
+  Begin
+    Error(Unexpected)
+  End
+End
+";
+
+const DEAF: &[u8] = b"Protocol Deaf
+Message GET() 0
+HomeStart H ReadWrite
+CacheStart I Invalid
+State H{}
+Begin
+  Default
+  Begin
+  End
+End
+State I{}
+Begin
+  On RD_FAULT()
+  Begin
+    Send(home, GET)
+  End
+  Default
+  Begin
+  End
+End
+";
+
+const PING_PONG: &[u8] = b"Protocol PingPong
+Message PING() 0
+HomeStart H ReadWrite
+CacheStart I Invalid
+State H{}
+Begin
+  Default
+  Begin
+    Send(src, PING)
+  End
+End
+State I{}
+Begin
+  On RD_FAULT()
+  Begin
+    Send(home, PING)
+  End
+  Default
+  Begin
+    Send(src, PING)
+  End
+End
+";
+
+const DOUBLE: &[u8] = b"Protocol Double
+Message GET() 0
+Message DATA() 1 data
+HomeStart H ReadWrite
+CacheStart I Invalid
+State H{}
+Begin
+  On GET()
+  Begin
+    Send(src, DATA)
+  End
+  Default
+  Begin
+    Error(Unexpected)
+  End
+End
+State I{}
+Begin
+  On RD_FAULT()
+  Begin
+    Send(home, GET)
+  End
+  On WR_FAULT()
+  Begin
+    Send(home, GET)
+  End
+  On DATA()
+  Begin
+    Install
+    SetTag(ReadWrite)
+    WakeUp
+  End
+  Default
+  Begin
+    Error(Unexpected)
+  End
+End
+";
+
+const DEEP: &[u8] = b"Protocol Deep
+Message NEST() 0
+HomeStart H ReadWrite
+CacheStart I Invalid
+State H{}
+Begin
+  On NEST()
+  Begin
+    Suspend(L, W{; L})
+  End
+  Default
+  Begin
+  End
+End
+State W{; C}
+Begin
+  On NEST()
+  Begin
+    Suspend(L, W{; L})
+  End
+  Default
+  Begin
+  End
+End
+State I{}
+Begin
+  On RD_FAULT()
+  Begin
+    Send(home, NEST)
+    Send(home, NEST)
+    Send(home, NEST)
+    Send(home, NEST)
+    Send(home, NEST)
+    Send(home, NEST)
+    Send(home, NEST)
+    Send(home, NEST)
+    Send(home, NEST)
+  End
+  Default
+  Begin
+  End
+End
+";
+
+const DROP: &[u8] = b"Protocol Drop
+Message GO() 0
+HomeStart H ReadWrite
+CacheStart H ReadWrite
+State H{}
+Begin
+  Default
+  Begin
+  End
+End
+State W{; C}
+Begin
+  On GO()
+  Begin
+    SetState(H{})
+  End
+  Default
+  Begin
+  End
+End
+";
+
+const WALK: &[u8] = b"Protocol Walk 2
+Message GET() 0 data
+Message ASK() 1
+Message YES() 1
+Message DONE() 1 data
+HomeStart H ReadWrite
+CacheStart I Invalid
+State H{}
+Begin
+  On GET()
+  Begin
+    Local x Node
+    ForEach x With(One(src), home)
+    Begin
+      Send(x, ASK)
+      Suspend(L, W{; L})
+    End
+    Install
+    Send(src, DONE)
+  End
+  Default
+  Begin
+  End
+End
+State W{; C}
+Begin
+  On ASK()
+  Begin
+    Send(src, YES)
+  End
+  On YES()
+  Begin
+    Resume(C)
+  End
+  Default
+  Begin
+    Enqueue
+  End
+End
+State I{}
+Begin
+  On RD_FAULT()
+  Begin
+    Send(home, GET)
+  End
+  On ASK()
+  Begin
+    Send(src, YES)
+  End
+  On DONE()
+  Begin
+    Install
+    SetTag(ReadWrite)
+    WakeUp
+  End
+  Default
+  Begin
+  End
+End
+";
