@@ -1,0 +1,4 @@
+pub mod Fitting
+pub mod Naming
+pub mod Ruled
+pub mod Walking

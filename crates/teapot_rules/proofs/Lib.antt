@@ -1,0 +1,12 @@
+pub mod Againing
+pub mod Appending
+pub mod Counts
+pub mod Faulty
+pub mod Follows
+pub mod Lasts
+pub mod Listing
+pub mod Looping
+pub mod Seeing
+pub mod Stepping
+pub mod Firstly
+pub mod Ruling
