@@ -1,0 +1,5 @@
+use Rattle.teapot_meaning.proofs.Meanings.{one_meaning}
+use Rattle.teapot_meaning.proofs.laws.one_meaning.Goals as goal
+
+pub returns : goal.returns
+returns c = one_meaning

@@ -1,0 +1,11 @@
+pub mod Bare
+pub mod Depth
+pub mod Does
+pub mod Fits
+pub mod Goes
+pub mod Handlers
+pub mod Layers
+pub mod Names
+pub mod Stays
+pub mod Steps
+pub mod Values

@@ -1,0 +1,45 @@
+ghost use Rattle.std.specs.Prelude.{◌≡◌, ◌≤◌, length};
+ghost use Rattle.teapot_meaning.specs.Names.{declared, info_number};
+ghost use Rattle.teapot_tree.specs.Scopes.{message_number, state_number};
+
+use teapot_tree::Protocol;
+
+/// The number of a message, 0 where it is not declared.
+pub fn message_number(p: &Protocol, name: &[u8]) -> u8
+    requires { length p.now.messages ≤ 64 }
+    ensures { result ≡ declared (message_number p.now name.now) }
+{
+    match message_place(p, name) {
+        Some(at) => at as u8,
+        None => 0,
+    }
+}
+
+pub fn message_place(p: &Protocol, name: &[u8]) -> Option<usize>
+    ensures { result ≡ message_number p.now name.now }
+{
+    p.messages.items().iter().position(|m| m.name.is(name))
+}
+
+/// The number of a state, 0 where it is not declared.
+pub fn state_number(p: &Protocol, name: &[u8]) -> u8
+    requires { length p.now.states ≤ 64 }
+    ensures { result ≡ declared (state_number p.now name.now) }
+{
+    match state_place(p, name) {
+        Some(at) => at as u8,
+        None => 0,
+    }
+}
+
+fn state_place(p: &Protocol, name: &[u8]) -> Option<usize>
+    ensures { result ≡ state_number p.now name.now }
+{
+    p.states.items().iter().position(|s| s.name.is(name))
+}
+
+pub fn info_place(p: &Protocol, name: &[u8]) -> Option<usize>
+    ensures { result ≡ info_number p.now name.now }
+{
+    p.infos.items().iter().position(|i| i.name.is(name))
+}

@@ -1,0 +1,10 @@
+//! Tests of protocols from their texts: what handlers do, statement by statement, against results worked out by hand.
+//! It has no code of its own.
+#![tactic(auto)]
+
+#[cfg(test)]
+mod protocols;
+#[cfg(test)]
+mod shown;
+#[cfg(test)]
+mod tests;
