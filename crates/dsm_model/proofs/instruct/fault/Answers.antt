@@ -1,0 +1,17 @@
+use Rattle.std.proofs.Common.{◌+◌, arith}
+use Rattle.dsm_model.specs.Kept.{is_served}
+use Rattle.dsm_model.proofs.Handlings.{all-get, fault_made, handling_of, made_same}
+use Rattle.dsm_model.proofs.instruct.fault.Goals as goal
+
+pub handle-requires : goal.handle-requires
+handle-requires c = all-get (is_served c.args.setup.now) c.args.l.now.blocks c.args.block c.block_at-here.result.now c.requires.sound.served c.block_at-here.ensures
+
+pub returns-clause-made : goal.returns-clause-made
+returns-clause-made c =
+    let s = c.args.setup.now in
+    let l = c.args.l.now in
+    let h = c.in_ok-handling.handling in
+    let is = handling_of s c.args.me (l.clock + 1) c.fault_of-message.result _ c.block_at-here.result.now c.items.result.now l.deferred h c.fault_of-message.ensures c.items.ensures c.in_ok-handling.ensures in
+    made_same s c.args.me _ l _ _ c.adopt.new.l _ c.adopt.result c.adopt.ensures.node c.adopt.ensures.made
+    (fault_made s c.args.me l c.args.store c.args.block c.block_at-here.result.now h c.requires.me c.requires.may c.requires.sound c.requires.block c.requires.refused c.block_at-here.ensures is
+    (omega (arith, c.requires.may.sent, c.shape-shape.ensures.valid.limits.budget, is.few)))

@@ -1,0 +1,19 @@
+use Rattle.std.proofs.Common.{◌+◌, ap, arith, refl}
+use Rattle.dsm_model.specs.Kept.{is_served}
+use Rattle.dsm_model.proofs.Handlings.{all-get, delivery_made, handling_of, made_same}
+use Rattle.dsm_model.proofs.take.deliver.Goals as goal
+
+pub handle-requires : goal.handle-requires
+handle-requires c = all-get (is_served c.args.setup.now) c.args.l.now.blocks c.args.message.now.block c.block_at-here.result.now c.requires.sound.served c.block_at-here.ensures
+
+pub returns-clause-made : goal.returns-clause-made
+returns-clause-made c =
+    let s = c.args.setup.now in
+    let l = c.args.l.now in
+    let m = c.args.message.now in
+    let stamp = c.max-stamp.result + 1 in
+    let h = c.in_ok-handling.handling in
+    let is = handling_of s c.args.me stamp m m c.block_at-here.result.now c.items.result.now l.deferred h refl c.items.ensures c.in_ok-handling.ensures in
+    made_same s c.args.me _ l _ _ c.adopt.new.l _ c.adopt.result c.adopt.ensures.node c.adopt.ensures.made
+    (delivery_made s c.args.me l m c.args.from c.args.chan stamp c.block_at-here.result.now h c.requires.me c.requires.from c.requires.may c.requires.sound c.requires.stale c.requires.early c.requires.block c.block_at-here.ensures
+    (ap (λ n. n + 1) c.max-stamp.ensures) is (omega (arith, c.requires.may.sent, c.shape.ensures.valid.limits.budget, is.few)))

@@ -1,0 +1,17 @@
+pub mod Args
+pub mod Setups
+pub mod Locals
+pub mod Messages
+pub mod Events
+pub mod Worlds
+pub mod Replays
+pub mod Merges
+pub mod Laws
+pub mod Globals
+pub mod Tests
+pub mod Views
+pub mod Kept
+pub mod Makes
+pub mod Posts
+pub mod Outcomes
+pub mod Schedules

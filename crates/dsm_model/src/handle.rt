@@ -1,0 +1,264 @@
+ghost use Rattle.std.specs.Prelude.{◌≡◌, ◌<◌, ◌+◌, ◌^◌, true, map, length, [], ◌∷◌, IfOk};
+ghost use Rattle.dsm_model.specs.Args.{padded_args, used_args};
+ghost use Rattle.dsm_model.specs.Events.{failure, free, freed_if, mode_after, with_kept};
+ghost use Rattle.dsm_model.specs.Kept.{is_served};
+ghost use Rattle.dsm_model.specs.Makes.{IsHandling, handled_entry, handled_node};
+ghost use Rattle.dsm_model.specs.Messages.{chan_of, fault, message_of, outgoing};
+
+use crate::{Local, Mode, Setup, Waiting};
+use std::alloc::Global;
+use teapot_meaning::{Ended, Here, Kept, Out, run};
+use teapot_tree::Checked;
+use tw_base::{
+    Act, After, BlockId, Chan, End, Entry, Kind, Listed, Memory, Message, NodeId, Value,
+};
+
+/// What a node does with a message: the block as its handler leaves it, the messages sent, which have no numbers yet, and
+/// the messages that are deferred then.
+#[derive(Debug, Drop)]
+pub struct Handling {
+    pub ended: Ended,
+    pub sends: Listed<Message>,
+    pub deferred: Listed<Waiting>,
+}
+
+/// An event of a node: its entry, and the messages sent, which have no numbers yet.
+#[derive(Debug, Drop)]
+pub struct Made {
+    pub entry: Entry,
+    pub sends: Listed<Message>,
+}
+
+/// The channel that the declaration of a message names.
+fn chan_of(protocol: &Checked, kind: Kind) -> Chan
+    ensures { result ≡ chan_of protocol.now kind }
+{
+    match kind {
+        Kind::RdFault | Kind::WrFault => Chan::Zero,
+        Kind::Named(number) => match protocol.protocol().messages.get(usize::from(number)) {
+            Some(message) => message.chan,
+            None => Chan::Zero,
+        },
+    }
+}
+
+fn used_count(args: &[Value]) -> u8
+    ensures count { result ≡ length (used_args args.now) }
+{
+    args.len().min(4) as u8
+}
+
+/// The first four values, and after them 0.
+fn padded(args: &[Value]) -> [Value; 4]
+    ensures { result ≡ padded_args args.now }
+{
+    let count = args.len().min(4);
+    let mut places = [Value::Int(0); 4];
+    places[..count].copy_from_slice(&args[..count]);
+    places
+}
+
+/// A message that a handler sends.
+fn message_of(protocol: &Checked, from: NodeId, block: BlockId, stamp: u64, out: &Out) -> Message
+    ensures { result ≡ message_of protocol.now from block stamp out.now }
+{
+    Message {
+        kind: out.kind,
+        block,
+        from,
+        to: out.to,
+        chan: chan_of(protocol, out.kind),
+        number: 0,
+        stamp,
+        args: padded(out.args.items()),
+        arg_count: used_count(out.args.items()),
+        payload: out.payload,
+    }
+}
+
+fn outgoing(
+    alloc: Global,
+    protocol: &Checked,
+    from: NodeId,
+    block: BlockId,
+    stamp: u64,
+    outs: &[Out],
+) -> Result<Listed<Message>, Memory>
+    ensures { IfOk result (λ sends. sends ≡ map (message_of protocol.now from block stamp) outs.now) }
+{
+    let mut sends = Listed::new(alloc);
+    for out in outs {
+        sends.push(message_of(protocol, from, block, stamp, out))?;
+    }
+    Ok(sends)
+}
+
+/// The message of a refused access.
+pub fn fault_of(store: bool, block: BlockId, me: NodeId) -> Message
+    ensures { result ≡ fault store block me }
+{
+    Message {
+        kind: if store { Kind::WrFault } else { Kind::RdFault },
+        block,
+        from: me,
+        to: me,
+        chan: Chan::Zero,
+        number: 0,
+        stamp: 0,
+        args: [Value::Int(0); 4],
+        arg_count: 0,
+        payload: None,
+    }
+}
+
+fn free(waiting: Waiting, block: BlockId) -> Waiting
+    ensures { result ≡ free block waiting }
+{
+    Waiting {
+        message: waiting.message,
+        eligible: waiting.message.block == block || waiting.eligible,
+    }
+}
+
+fn freed(alloc: Global, block: BlockId, deferred: &[Waiting]) -> Result<Listed<Waiting>, Memory>
+    ensures { IfOk result (λ ws. ws ≡ map (free block) deferred.now) }
+{
+    let mut ws = Listed::new(alloc);
+    for waiting in deferred {
+        ws.push(free(*waiting, block))?;
+    }
+    Ok(ws)
+}
+
+fn freed_if(
+    alloc: Global,
+    is_freed: bool,
+    block: BlockId,
+    deferred: &[Waiting],
+) -> Result<Listed<Waiting>, Memory>
+    ensures { IfOk result (λ ws. ws ≡ freed_if is_freed block deferred.now) }
+{
+    if is_freed {
+        freed(alloc, block, deferred)
+    } else {
+        Listed::from_slice(alloc, deferred)
+    }
+}
+
+fn one(alloc: Global, message: Message, eligible: bool) -> Result<Listed<Waiting>, Memory>
+    ensures { IfOk result (λ ws. ws ≡ record { message = message; eligible = eligible } ∷ []) }
+{
+    Listed::from_slice(alloc, &[Waiting { message, eligible }])
+}
+
+/// What is put behind the deferred messages.
+fn kept(alloc: Global, kept: Kept, message: Message) -> Result<Listed<Waiting>, Memory>
+    ensures { IfOk result (λ ws. ws ≡ with_kept kept message []) }
+{
+    match kept {
+        Kept::No => Ok(Listed::new(alloc)),
+        Kept::Stale => one(alloc, message, false),
+        Kept::Eligible => one(alloc, message, true),
+    }
+}
+
+fn failure(end: End) -> Option<End>
+    ensures { result ≡ failure end }
+{
+    match end {
+        End::Fine => None,
+        _ => Some(end),
+    }
+}
+
+fn mode_after(woke: bool, block: BlockId, mode: Mode) -> Mode
+    ensures { result ≡ mode_after woke block mode }
+{
+    match mode {
+        Mode::Blocked(waits) => {
+            if woke && block == waits {
+                Mode::Woken
+            } else {
+                mode
+            }
+        }
+        _ => mode,
+    }
+}
+
+/// Handles a message at a block. `deferred` are the other messages that are deferred. Nothing changes at the node.
+///
+/// Want of memory is the only error, and a handler that sends 65,536 messages or more is taken as such.
+pub fn handle(
+    alloc: Global,
+    setup: &Setup,
+    me: NodeId,
+    stamp: u64,
+    message: &Message,
+    here: &Here,
+    deferred: &[Waiting],
+) -> Result<Handling, Memory>
+    requires { is_served setup.now here.now ≡ true }
+    ensures { IfOk result (IsHandling setup.now me stamp message.now here.now deferred.now) }
+{
+    let protocol = setup.protocol();
+    let ended = run(alloc, protocol, here, message)?;
+    let outs = ended.sends.items();
+    let sends = outgoing(alloc, protocol, me, message.block, stamp, outs)?;
+    if sends.len() > usize::from(u16::MAX) {
+        return Err(Memory);
+    }
+    let mut deferred = freed_if(alloc, ended.freed, message.block, deferred)?;
+    let more = kept(alloc, ended.kept, *message)?;
+    deferred.append(more)?;
+    Ok(Handling {
+        ended,
+        sends,
+        deferred,
+    })
+}
+
+/// The node comes to be as the handling leaves it.
+pub fn adopt(
+    l: &mut Local,
+    me: NodeId,
+    act: Act,
+    block: BlockId,
+    stamp: u64,
+    handling: Handling,
+) -> Made
+    requires block { block < length l.old.blocks }
+    requires few { length handling.sends < 2 ^ 16 }
+    requires sent { l.old.sent + length handling.sends < 2 ^ 32 }
+    ensures node { l.new ≡ handled_node l.old block stamp handling }
+    ensures made { result ≡ record { entry = handled_entry me act block stamp handling; sends = handling.sends } }
+{
+    let Handling {
+        ended,
+        sends,
+        deferred,
+    } = handling;
+    let count = sends.len();
+    let after = After {
+        block,
+        state: ended.here.state.state,
+        tag: ended.here.tag,
+        end: ended.end,
+    };
+    l.mode = mode_after(ended.woke, block, l.mode);
+    l.failed = failure(ended.end);
+    l.clock = stamp;
+    l.sent += count as u32;
+    l.deferred = deferred;
+    l.blocks.set(usize::from(block.get()), ended.here);
+    Made {
+        entry: Entry {
+            stamp,
+            node: me,
+            act,
+            sends: count as u16,
+            after: Some(after),
+        },
+        sends,
+    }
+}

@@ -1,0 +1,35 @@
+use mini_asm::Cpu;
+use teapot_meaning::Here;
+use tw_base::{BlockId, End, Listed, Message, Trap};
+
+/// What a node's processor does: it goes on, waits for a block, may try its instruction again, or has ended.
+#[derive(Clone, Copy, Debug, PartialEq, Eq)]
+pub enum Mode {
+    Running,
+    Blocked(BlockId),
+    Woken,
+    Halted,
+    Trapped(Trap),
+}
+
+/// A deferred message. It is eligible where it may be handled again.
+#[derive(Clone, Copy, Debug, PartialEq, Eq)]
+pub struct Waiting {
+    pub message: Message,
+    pub eligible: bool,
+}
+
+/// A node: what its processor does, how a handler failed there, its clock, its processor, its copy of each block, the
+/// messages that it deferred, and how many instructions it tried, messages it handled and messages it sent.
+#[derive(Debug, Drop)]
+pub struct Local {
+    pub mode: Mode,
+    pub failed: Option<End>,
+    pub clock: u64,
+    pub cpu: Cpu,
+    pub blocks: Listed<Here>,
+    pub deferred: Listed<Waiting>,
+    pub instructions: u32,
+    pub handled: u32,
+    pub sent: u32,
+}

@@ -1,0 +1,94 @@
+ghost use Rattle.std.specs.Prelude.{◌≡◌, ◌<◌, IfOk, length};
+ghost use Rattle.tw_base.specs.declared.entry.Event.TheVariants as event;
+ghost use Rattle.dsm_model.specs.Kept.{IsKept};
+ghost use Rattle.dsm_model.specs.Views.{state_of};
+ghost use Rattle.dsm_model.specs.Worlds.{IsEnabled, Step, event_of};
+
+use crate::instruct::instruct;
+use crate::row::Row;
+use crate::take::{deliver, redeliver};
+use crate::wires::{send_all, take, wire};
+use crate::{Local, Setup};
+use std::alloc::Global;
+use tw_base::{Chan, Entry, Event, Memory, NodeId};
+
+/// The instruction event of a node.
+fn make_instruction(
+    alloc: Global,
+    setup: &Setup,
+    locals: &mut [Local],
+    rows: &mut [Row],
+    node: NodeId,
+) -> Result<Entry, Memory>
+    requires kept { IsKept setup.now locals.old rows.old }
+    requires enabled { IsEnabled setup.now (state_of setup.now locals.old rows.old) (event.Instr node) }
+    ensures kept { IsKept setup.now locals.new rows.new }
+    ensures step { IfOk result (λ entry. (event_of entry ≡ event.Instr node) × Step setup.now (state_of setup.now locals.old rows.old) entry (state_of setup.now locals.new rows.new)) }
+{
+    let made = instruct(alloc, setup, node, &mut locals[usize::from(node.get())])?;
+    send_all(rows, made.sends.items())?;
+    Ok(made.entry)
+}
+
+/// The redelivery of a node.
+fn make_redelivery(
+    alloc: Global,
+    setup: &Setup,
+    locals: &mut [Local],
+    rows: &mut [Row],
+    node: NodeId,
+) -> Result<Entry, Memory>
+    requires kept { IsKept setup.now locals.old rows.old }
+    requires enabled { IsEnabled setup.now (state_of setup.now locals.old rows.old) (event.Redeliver node) }
+    ensures kept { IsKept setup.now locals.new rows.new }
+    ensures step { IfOk result (λ entry. (event_of entry ≡ event.Redeliver node) × Step setup.now (state_of setup.now locals.old rows.old) entry (state_of setup.now locals.new rows.new)) }
+{
+    let made = redeliver(alloc, setup, node, &mut locals[usize::from(node.get())])?;
+    send_all(rows, made.sends.items())?;
+    Ok(made.entry)
+}
+
+/// The delivery of the oldest message of a wire.
+fn make_delivery(
+    alloc: Global,
+    setup: &Setup,
+    locals: &mut [Local],
+    rows: &mut [Row],
+    at: NodeId,
+    from: NodeId,
+    chan: Chan,
+) -> Result<Entry, Memory>
+    requires kept { IsKept setup.now locals.old rows.old }
+    requires enabled { IsEnabled setup.now (state_of setup.now locals.old rows.old) (event.Deliver at from chan) }
+    ensures kept { IsKept setup.now locals.new rows.new }
+    ensures step { IfOk result (λ entry. (event_of entry ≡ event.Deliver at from chan) × Step setup.now (state_of setup.now locals.old rows.old) entry (state_of setup.now locals.new rows.new)) }
+{
+    let message = *wire(rows, from, at, chan).get(0).unwrap();
+    let node = &mut locals[usize::from(at.get())];
+    let made = deliver(alloc, setup, at, node, &message, from, chan)?;
+    take(rows, from, at, chan);
+    send_all(rows, made.sends.items())?;
+    Ok(made.entry)
+}
+
+/// Makes an event, which is enabled.
+pub fn make(
+    alloc: Global,
+    setup: &Setup,
+    locals: &mut [Local],
+    rows: &mut [Row],
+    e: Event,
+) -> Result<Entry, Memory>
+    requires kept { IsKept setup.now locals.old rows.old }
+    requires enabled { IsEnabled setup.now (state_of setup.now locals.old rows.old) e }
+    ensures kept { IsKept setup.now locals.new rows.new }
+    ensures step { IfOk result (λ entry. (event_of entry ≡ e) × Step setup.now (state_of setup.now locals.old rows.old) entry (state_of setup.now locals.new rows.new)) }
+{
+    match e {
+        Event::Instr(node) => make_instruction(alloc, setup, locals, rows, node),
+        Event::Redeliver(node) => make_redelivery(alloc, setup, locals, rows, node),
+        Event::Deliver { at, from, chan } => {
+            make_delivery(alloc, setup, locals, rows, at, from, chan)
+        }
+    }
+}
