@@ -1,4 +1,6 @@
+mod Accepting
 mod Determined
 mod Enumerating
 mod Running
+mod Sections
 mod Splitting

@@ -19,7 +19,7 @@ list_any_of_map p f (x ∷ xs) = ap (λ b. p (f x) || b) (list_any_of_map p f xs
 -- more than two words are no command
 pub too_many : (words : List (List ℕ)) → 3 ≤ length words → command_of words ≡ None
 too_many [] le = absurd (omega arith)
-too_many (w ∷ []) le = refl
+too_many (w ∷ []) le = absurd (omega arith)
 too_many (w ∷ n ∷ []) le = absurd (omega arith)
 too_many (w ∷ n ∷ m ∷ ws) le = refl
 

@@ -1,4 +1,5 @@
 pub mod Answering
+pub mod Inputs
 pub mod Laws
 pub mod Reports
 pub mod Runs

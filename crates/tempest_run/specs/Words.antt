@@ -31,9 +31,14 @@ stride_of (b ∷ bs) = number_of (b ∷ bs) >>? λ n. if nat_lt n (2 ^ 32) then 
 abbrev pub two_words : List ℕ → List ℕ → Option Command
 two_words w n = if bytes_eq w (codes "serial") then option_map (λ k. commands.Serial k) (stride_of n) else None
 
+abbrev pub one_word : List ℕ → Option Command
+one_word w =
+    if bytes_eq w (codes "check") then Some commands.Check else
+    (if bytes_eq w (codes "show") then Some commands.Show else None)
+
 abbrev pub command_of : List (List ℕ) → Option Command
 command_of [] = None
-command_of (w ∷ []) = None
+command_of (w ∷ []) = one_word w
 command_of (w ∷ n ∷ []) = two_words w n
 command_of (w ∷ n ∷ m ∷ ws) = None
 

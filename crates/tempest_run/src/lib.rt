@@ -2,7 +2,9 @@
 //! call that does all that the program does.
 #![tactic(auto)]
 
+mod accepted;
 mod answer;
+mod input;
 mod laws;
 mod report;
 mod run;

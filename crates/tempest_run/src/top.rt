@@ -75,7 +75,7 @@ pub fn tempest_plain<S: Source, K: Sink>(
     let Ok(answer) = answer_to(alloc, command, &text) else {
         return Status::Memory;
     };
-    match write_all_counted(sink, answer.text.as_bytes()) {
+    match write_all_counted(sink, &answer.text) {
         Ok(()) => answer.status,
         Err(Failed) => Status::WriteFault,
     }

@@ -1,13 +1,17 @@
 ghost use Rattle.std.specs.Prelude.{◌≡◌, ◌++◌, map, position};
 ghost use Rattle.std.specs.List.{list_any};
 ghost use Rattle.std.specs.String.{string_bytes};
-ghost use Rattle.tempest_run.specs.Words.{is_option, is_dashes, stride_of, two_words, command_of, command_split, asked};
+ghost use Rattle.tempest_run.specs.Words.{is_option, is_dashes, stride_of, one_word, two_words, command_of, command_split, asked};
 
 use tw_lex::number_of;
 
 /// What the program is to do.
 #[derive(Clone, Copy, Debug, PartialEq, Eq)]
 pub enum Command {
+    /// Check the protocol of the input.
+    Check,
+    /// Write the protocol of the input in its canonical spelling.
+    Show,
     /// Run the input in the serial schedule of this stride.
     Serial(u32),
 }
@@ -21,6 +25,18 @@ fn stride_of(word: &[u8]) -> Option<u32>
     let number = number_of(word)?;
     if number < 1 << 32 {
         Some(number as u32)
+    } else {
+        None
+    }
+}
+
+fn one_word(command: &str) -> Option<Command>
+    ensures { result ≡ one_word command.now }
+{
+    if command == "check" {
+        Some(Command::Check)
+    } else if command == "show" {
+        Some(Command::Show)
     } else {
         None
     }
@@ -40,6 +56,7 @@ fn command_of(words: &[String]) -> Option<Command>
     ensures { result ≡ command_of (map string_bytes words.now) }
 {
     match words {
+        [command] => one_word(command.as_str()),
         [command, number] => two_words(command.as_str(), number.as_str()),
         _ => None,
     }
@@ -57,6 +74,7 @@ fn command_joined(before: &[String], after: &[String]) -> Option<Command>
     match before {
         [] => command_of(after),
         [command] => match after {
+            [] => one_word(command.as_str()),
             [number] => two_words(command.as_str(), number.as_str()),
             _ => None,
         },

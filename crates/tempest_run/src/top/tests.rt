@@ -383,7 +383,7 @@ const REFUSALS: [(&str, &str); 88] = [
         "refused line 2 NotYet\n",
     ),
     (
-        "tempest 1\nnodes 1\nwords 4\nblocks 2\nprotocol\nend\n",
+        "tempest 1\nnodes 1\nwords 4\nblocks 2\nprotocol\nProtocol P\nHomeStart H ReadWrite\nCacheStart H ReadWrite\nState H{}\nBegin\nDefault\nBegin\nEnd\nEnd\nend\n",
         "refused line 5 NotYet\n",
     ),
     (
@@ -391,7 +391,7 @@ const REFUSALS: [(&str, &str); 88] = [
         "refused line 5 NotYet\n",
     ),
     (
-        "tempest 1\nnodes 2\nwords 1\nblocks 1\nprotocol\nend\n",
+        "tempest 1\nnodes 2\nwords 1\nblocks 1\nprotocol\nProtocol P\nHomeStart H ReadWrite\nCacheStart H ReadWrite\nState H{}\nBegin\nDefault\nBegin\nEnd\nEnd\nend\n",
         "refused line 2 NotYet\n",
     ),
     (
@@ -408,7 +408,177 @@ fn texts_are_refused(rt: HostRuntime) -> Result<(), Fail> {
     Ok(())
 }
 
-const NO_COMMANDS: [&str; 12] = [
+// Texts whose protocol is not one, and the refusal of each by every command that reads a text.
+const BAD_PROTOCOLS: [(&str, &str); 9] = [
+    (
+        "tempest 1\nnodes 1\nwords 1\nblocks 1\nprotocol\nend\n",
+        "refused line 6 BadNest\n",
+    ),
+    (
+        "tempest 1\nnodes 1\nwords 1\nblocks 1\nprotocol\n\n# none\n\nend\n",
+        "refused line 9 BadNest\n",
+    ),
+    (
+        "tempest 1\nnodes 1\nwords 1\nblocks 1\nprotocol\nProtocol P\nState H{}\nBegin\nDefault\nBegin\nEnd\nend\n",
+        "refused line 12 BadNest\n",
+    ),
+    (
+        "tempest 1\nnodes 1\nwords 1\nblocks 1\nprotocol\nProtocol P\nState H{}\nBegin\nEnd\nEnd\nend\n",
+        "refused line 10 BadNest\n",
+    ),
+    (
+        "tempest 1\nnodes 1\nwords 1\nblocks 1\nprotocol\nInfo a Int\nProtocol P\nResume C\nend\n",
+        "refused line 8 BadLine\n",
+    ),
+    (
+        "tempest 1\nnodes 1\nwords 1\nblocks 1\nprotocol\nProtocol P\nInfo a Int\nInfo b Int\nInfo c Int\nInfo d Int\nInfo e Int\nInfo f Int\nInfo g Int\nInfo h Int\nInfo i Int\nend\n",
+        "refused line 15 TooMany\n",
+    ),
+    (
+        "tempest 1\nnodes 1\nwords 1\nblocks 1\nprogram 0\nx\nend\nprotocol\nx\nend\n",
+        "refused line 6 BadLine\n",
+    ),
+    (
+        "tempest 1\nnodes 9\nwords 1\nblocks 1\nprotocol\nx\nend\n",
+        "refused line 2 OutOfRange\n",
+    ),
+    (
+        "tempest 1\nnodes 2\nwords 1\nblocks 1\nprotocol\nProtocol P\nForEach x y\nend\n",
+        "refused line 7 BadLine\n",
+    ),
+];
+
+#[test]
+fn bad_protocols_are_refused(rt: HostRuntime) -> Result<(), Fail> {
+    for (text, refusal) in &BAD_PROTOCOLS {
+        for asked in ["check", "show", "serial 1"] {
+            expect(&rt, rt.alloc(), asked, text, Status::Refused, refusal)?;
+        }
+    }
+    Ok(())
+}
+
+const STACHE: &str =
+    "Protocol Stache\nMessage GET_RO() 0\nMessage GET_RW() 0\nMessage DATA_RO() 1 data\nMessage DATA_RW() 1 data\nMessage PUT() 1 data\nMessage INV() 1\nMessage ACK() 1\nMessage RECALL() 1\nInfo sharers Set\nInfo owner Node\nInfo acks Int\nHomeStart Home_RW ReadWrite\nCacheStart Cache_Inv Invalid\nState Home_RW{}\nBegin\n  On GET_RO()\n  Begin\n    sharers := One(src)\n    SetTag(ReadOnly)\n    Send(src, DATA_RO)\n    SetState(Home_RO{})\n  End\n  On GET_RW()\n  Begin\n    owner := src\n    SetTag(Invalid)\n    Send(src, DATA_RW)\n    SetState(Home_Excl{})\n  End\n  Default\n  Begin\n    Error(Unexpected)\n  End\nEnd\nState Home_RO{}\nBegin\n  On RD_FAULT()\n  Begin\n    WakeUp\n  End\n  On WR_FAULT()\n  Begin\n    acks := Count(sharers)\n    SendAll(sharers, INV)\n    sharers := Empty\n    Suspend(L, Home_Acks{; L})\n    SetTag(ReadWrite)\n    WakeUp\n    SetState(Home_RW{})\n  End\n  On GET_RO()\n  Begin\n    sharers := With(sharers, src)\n    Send(src, DATA_RO)\n  End\n  On GET_RW()\n  Begin\n    sharers := Without(sharers, src)\n    acks := Count(sharers)\n    If (0 < acks)\n    Begin\n      SendAll(sharers, INV)\n      sharers := Empty\n      Suspend(L, Home_Acks{; L})\n    End\n    owner := src\n    SetTag(Invalid)\n    Send(src, DATA_RW)\n    SetState(Home_Excl{})\n  End\n  Default\n  Begin\n    Error(Unexpected)\n  End\nEnd\nState Home_Excl{}\nBegin\n  On RD_FAULT()\n  Begin\n    Send(owner, RECALL)\n    Suspend(L, Home_Put{; L})\n    SetTag(ReadWrite)\n    WakeUp\n    SetState(Home_RW{})\n  End\n  On WR_FAULT()\n  Begin\n    Send(owner, RECALL)\n    Suspend(L, Home_Put{; L})\n    SetTag(ReadWrite)\n    WakeUp\n    SetState(Home_RW{})\n  End\n  On GET_RO()\n  Begin\n    Send(owner, RECALL)\n    Suspend(L, Home_Put{; L})\n    sharers := One(src)\n    SetTag(ReadOnly)\n    Send(src, DATA_RO)\n    SetState(Home_RO{})\n  End\n  On GET_RW()\n  Begin\n    Send(owner, RECALL)\n    Suspend(L, Home_Put{; L})\n    owner := src\n    Send(src, DATA_RW)\n    SetState(Home_Excl{})\n  End\n  Default\n  Begin\n    Error(Unexpected)\n  End\nEnd\nState Home_Acks{; C}\nBegin\n  On ACK()\n  Begin\n    acks := (acks - 1)\n    If (acks = 0)\n    Begin\n      Resume(C)\n    End\n  End\n  Default\n  Begin\n    Enqueue\n  End\nEnd\nState Home_Put{; C}\nBegin\n  On PUT()\n  Begin\n    Install\n    Resume(C)\n  End\n  Default\n  Begin\n    Enqueue\n  End\nEnd\nState Cache_Inv{}\nBegin\n  On RD_FAULT()\n  Begin\n    Send(home, GET_RO)\n    Suspend(L, Cache_Wait_RO{; L})\n    WakeUp\n    SetState(Cache_RO{})\n  End\n  On WR_FAULT()\n  Begin\n    Send(home, GET_RW)\n    Suspend(L, Cache_Wait_RW{; L})\n    WakeUp\n    SetState(Cache_RW{})\n  End\n  Default\n  Begin\n    Error(Unexpected)\n  End\nEnd\nState Cache_RO{}\nBegin\n  On WR_FAULT()\n  Begin\n    SetTag(Invalid)\n    Send(home, GET_RW)\n    Suspend(L, Cache_Wait_RW{; L})\n    WakeUp\n    SetState(Cache_RW{})\n  End\n  On INV()\n  Begin\n    SetTag(Invalid)\n    Send(src, ACK)\n    SetState(Cache_Inv{})\n  End\n  Default\n  Begin\n    Error(Unexpected)\n  End\nEnd\nState Cache_RW{}\nBegin\n  On RECALL()\n  Begin\n    SetTag(Invalid)\n    Send(src, PUT)\n    SetState(Cache_Inv{})\n  End\n  Default\n  Begin\n    Error(Unexpected)\n  End\nEnd\nState Cache_Wait_RO{; C}\nBegin\n  On DATA_RO()\n  Begin\n    Install\n    SetTag(ReadOnly)\n    Resume(C)\n  End\n  Default\n  Begin\n    Error(Unexpected)\n  End\nEnd\nState Cache_Wait_RW{; C}\nBegin\n  On DATA_RW()\n  Begin\n    Install\n    SetTag(ReadWrite)\n    Resume(C)\n  End\n  On INV()\n  Begin\n    Send(src, ACK)\n  End\n  Default\n  Begin\n    Error(Unexpected)\n  End\nEnd\n";
+
+const SHOWN: [(&str, Status, &str); 4] = [
+    (
+        "tempest 1\nnodes 2\nwords 1\nblocks 1\nprotocol\r\n\tProtocol  P # p\nMessage M ( Int,Set )01 data\n\nHomeStart S ReadWrite\nCacheStart S ReadWrite\nState S{ }\nBegin\nDefault\nBegin\nEnd\nEnd\nState H{ a Int;C }\nBegin\nOn M(x,y)\nBegin\nLocal n Int\nIf(x<7)\nBegin\nn:=(x+007)\nEnd\nElse\nBegin\nSend(src,M,n,One(self))\nEnd\nEnd\nDefault\nBegin\nEnd\nEnd\nend",
+        Status::Done,
+        "Protocol P\nMessage M(Int, Set) 1 data\nHomeStart S ReadWrite\nCacheStart S ReadWrite\nState S{}\nBegin\n  Default\n  Begin\n  End\nEnd\nState H{a Int; C}\nBegin\n  On M(x, y)\n  Begin\n    Local n Int\n    If (x < 7)\n    Begin\n      n := (x + 7)\n    End\n    Else\n    Begin\n      Send(src, M, n, One(self))\n    End\n  End\n  Default\n  Begin\n  End\nEnd\n",
+    ),
+    (
+        "tempest 2\nnodes 1\nwords 1\nblocks 1\nprotocol\nProtocol P 02\nHomeStart S ReadOnly\nCacheStart S Invalid\nState S{}\nBegin\nDefault\nBegin\nLocal n Node\nForEach n With(Empty, home)\nBegin\nEnd\nEnd\nEnd\nend\n",
+        Status::Done,
+        "Protocol P 2\nHomeStart S ReadOnly\nCacheStart S Invalid\nState S{}\nBegin\n  Default\n  Begin\n    Local n Node\n    ForEach n With(Empty, home)\n    Begin\n    End\n  End\nEnd\n",
+    ),
+    (
+        "tempest 1\nnodes 1\nwords 1\nblocks 1\n# none",
+        Status::Done,
+        STACHE,
+    ),
+    (
+        "tempest 2\nnodes 8\nwords 1\nblocks 1\nshipped Stache\n\n",
+        Status::Done,
+        STACHE,
+    ),
+];
+
+#[test]
+fn protocols_are_shown(rt: HostRuntime) -> Result<(), Fail> {
+    for (text, status, written) in &SHOWN {
+        expect(&rt, rt.alloc(), "show", text, *status, written)?;
+        expect(&rt, rt.alloc(), "-- show", text, *status, written)?;
+    }
+    Ok(())
+}
+
+// A protocol that breaks each of the rules, and its refusal by every command that reads a text.
+const BROKEN: [(&str, &str); 12] = [
+    (
+        "tempest 1\nnodes 1\nwords 1\nblocks 1\nprotocol\nProtocol P\nMessage GO() 0\nMessage DATA(Int, Node) 1 data\nInfo count Int\nInfo who Node\nInfo sharers Set\nInfo flag Bool\nHomeStart H ReadWrite\nCacheStart H Invalid\nState H{}\nBegin\nOn GO()\nBegin\ncount := missing\nEnd\nDefault\nBegin\nEnd\nEnd\nState W{; C}\nBegin\nOn DATA(x, y)\nBegin\nEnd\nDefault\nBegin\nEnd\nEnd\nend\n",
+        "refused line 19 Undeclared\n",
+    ),
+    (
+        "tempest 1\nnodes 1\nwords 1\nblocks 1\nprotocol\nProtocol P\nMessage GO() 0\nMessage DATA(Int, Node) 1 data\nInfo count Int\nInfo who Node\nInfo sharers Set\nInfo flag Bool\nHomeStart H ReadWrite\nCacheStart H Invalid\nState H{}\nBegin\nOn GO()\nBegin\nLocal count Int\nEnd\nDefault\nBegin\nEnd\nEnd\nState W{; C}\nBegin\nOn DATA(x, y)\nBegin\nEnd\nDefault\nBegin\nEnd\nEnd\nend\n",
+        "refused line 19 Twice\n",
+    ),
+    (
+        "tempest 1\nnodes 1\nwords 1\nblocks 1\nprotocol\nProtocol P\nMessage GO() 0\nMessage DATA(Int, Node) 1 data\nInfo count Int\nInfo who Node\nInfo sharers Set\nInfo flag Bool\nHomeStart H ReadWrite\nCacheStart H Invalid\nState H{}\nBegin\nOn GO()\nBegin\ncount := flag\nEnd\nDefault\nBegin\nEnd\nEnd\nState W{; C}\nBegin\nOn DATA(x, y)\nBegin\nEnd\nDefault\nBegin\nEnd\nEnd\nend\n",
+        "refused line 19 WrongType\n",
+    ),
+    (
+        "tempest 1\nnodes 1\nwords 1\nblocks 1\nprotocol\nProtocol P\nMessage GO() 0\nMessage DATA(Int, Node) 1 data\nInfo count Int\nInfo who Node\nInfo sharers Set\nInfo flag Bool\nHomeStart H ReadWrite\nCacheStart H Invalid\nState H{}\nBegin\nOn GO()\nBegin\nSend(who, GO, 1)\nEnd\nDefault\nBegin\nEnd\nEnd\nState W{; C}\nBegin\nOn DATA(x, y)\nBegin\nEnd\nDefault\nBegin\nEnd\nEnd\nend\n",
+        "refused line 19 ArgCount\n",
+    ),
+    (
+        "tempest 1\nnodes 1\nwords 1\nblocks 1\nprotocol\nProtocol P\nMessage GO() 0\nMessage DATA(Int, Node) 1 data\nInfo count Int\nInfo who Node\nInfo sharers Set\nInfo flag Bool\nHomeStart H ReadWrite\nCacheStart H Invalid\nState H{}\nBegin\nOn GO()\nBegin\nEnd\nDefault\nBegin\nEnd\nEnd\nState W{; C}\nBegin\nOn DATA(x, y)\nBegin\nSetState(H{})\nEnd\nDefault\nBegin\nEnd\nEnd\nend\n",
+        "refused line 28 ContDropped\n",
+    ),
+    (
+        "tempest 1\nnodes 1\nwords 1\nblocks 1\nprotocol\nProtocol P\nMessage GO() 0\nMessage DATA(Int, Node) 1 data\nInfo count Int\nInfo who Node\nInfo sharers Set\nInfo flag Bool\nHomeStart H ReadWrite\nCacheStart H Invalid\nState H{}\nBegin\nOn GO()\nBegin\nEnd\nDefault\nBegin\nEnd\nEnd\nState W{; C}\nBegin\nOn DATA(x, y)\nBegin\nResume(C)\ncount := 1\nEnd\nDefault\nBegin\nEnd\nEnd\nend\n",
+        "refused line 28 ResumeNotLast\n",
+    ),
+    (
+        "tempest 1\nnodes 1\nwords 1\nblocks 1\nprotocol\nProtocol P\nMessage GO() 0\nMessage DATA(Int, Node) 1 data\nInfo count Int\nInfo who Node\nInfo sharers Set\nInfo flag Bool\nHomeStart H ReadWrite\nCacheStart H Invalid\nState H{}\nBegin\nOn GO()\nBegin\nResume(C)\nEnd\nDefault\nBegin\nEnd\nEnd\nState W{; C}\nBegin\nOn DATA(x, y)\nBegin\nEnd\nDefault\nBegin\nEnd\nEnd\nend\n",
+        "refused line 19 ResumeForeign\n",
+    ),
+    (
+        "tempest 1\nnodes 1\nwords 1\nblocks 1\nprotocol\nProtocol P\nMessage GO() 0\nMessage DATA(Int, Node) 1 data\nInfo count Int\nInfo who Node\nInfo sharers Set\nInfo flag Bool\nHomeStart H ReadWrite\nCacheStart H Invalid\nState H{}\nBegin\nOn GO()\nBegin\nSuspend(L, W{; L})\nEnqueue\nEnd\nDefault\nBegin\nEnd\nEnd\nState W{; C}\nBegin\nOn DATA(x, y)\nBegin\nEnd\nDefault\nBegin\nEnd\nEnd\nend\n",
+        "refused line 20 AfterSuspend\n",
+    ),
+    (
+        "tempest 1\nnodes 1\nwords 1\nblocks 1\nprotocol\nProtocol P\nMessage GO() 0\nMessage DATA(Int, Node) 1 data\nInfo count Int\nInfo who Node\nInfo sharers Set\nInfo flag Bool\nHomeStart H ReadWrite\nCacheStart H Invalid\nState H{}\nBegin\nOn GO()\nBegin\nInstall\nEnd\nDefault\nBegin\nEnd\nEnd\nState W{; C}\nBegin\nOn DATA(x, y)\nBegin\nEnd\nDefault\nBegin\nEnd\nEnd\nend\n",
+        "refused line 19 NoData\n",
+    ),
+    (
+        "tempest 1\nnodes 1\nwords 1\nblocks 1\nprotocol\nProtocol P\nHomeStart H ReadWrite\nCacheStart H Invalid\nState H{}\nBegin\nEnd\nend\n",
+        "refused line 9 NoDefault\n",
+    ),
+    (
+        "tempest 1\nnodes 1\nwords 1\nblocks 1\nprotocol\nProtocol P\nMessage GO() 0\nMessage DATA(Int, Node) 1 data\nInfo count Int\nInfo who Node\nInfo sharers Set\nInfo flag Bool\nHomeStart H ReadWrite\nCacheStart H Invalid\nState H{}\nBegin\nOn GO()\nBegin\nSend(who, GO)\nSend(who, GO)\nSend(who, GO)\nSend(who, GO)\nSend(who, GO)\nSend(who, GO)\nSend(who, GO)\nSend(who, GO)\nSend(who, GO)\nSend(who, GO)\nSend(who, GO)\nSend(who, GO)\nSend(who, GO)\nSend(who, GO)\nSend(who, GO)\nSend(who, GO)\nSend(who, GO)\nSend(who, GO)\nSend(who, GO)\nSend(who, GO)\nSend(who, GO)\nSend(who, GO)\nSend(who, GO)\nSend(who, GO)\nSend(who, GO)\nSend(who, GO)\nSend(who, GO)\nSend(who, GO)\nSend(who, GO)\nSend(who, GO)\nSend(who, GO)\nSend(who, GO)\nSend(who, GO)\nEnd\nDefault\nBegin\nEnd\nEnd\nState W{; C}\nBegin\nOn DATA(x, y)\nBegin\nEnd\nDefault\nBegin\nEnd\nEnd\nend\n",
+        "refused line 17 TooManySends\n",
+    ),
+    (
+        "tempest 1\nnodes 1\nwords 1\nblocks 1\nprotocol\nProtocol P\nHomeStart H ReadWrite\nend\n",
+        "refused line 6 NotTwoStarts\n",
+    ),
+];
+
+#[test]
+fn broken_protocols_are_refused(rt: HostRuntime) -> Result<(), Fail> {
+    for (text, refusal) in &BROKEN {
+        for asked in ["check", "show", "serial 0"] {
+            expect(&rt, rt.alloc(), asked, text, Status::Refused, refusal)?;
+        }
+    }
+    Ok(())
+}
+
+const ACCEPTED: [(&str, &str); 3] = [
+    (
+        "tempest 1\nnodes 1\nwords 1\nblocks 1\nprotocol\nProtocol P\nMessage GO() 0\nMessage DATA(Int, Node) 1 data\nInfo count Int\nInfo who Node\nInfo sharers Set\nInfo flag Bool\nHomeStart H ReadWrite\nCacheStart H Invalid\nState H{}\nBegin\nOn GO()\nBegin\nEnd\nDefault\nBegin\nEnd\nEnd\nState W{; C}\nBegin\nOn DATA(x, y)\nBegin\nEnd\nDefault\nBegin\nEnd\nEnd\nend\n",
+        "accepted P messages 2 infos 4 states 2 handlers 4\n",
+    ),
+    (
+        "tempest 1\nnodes 4\nwords 1\nblocks 1\n",
+        "accepted Stache messages 8 infos 3 states 10 handlers 30\n",
+    ),
+    (
+        "tempest 2\nnodes 1\nwords 1\nblocks 1\nshipped Stache\n",
+        "accepted Stache messages 8 infos 3 states 10 handlers 30\n",
+    ),
+];
+
+#[test]
+fn protocols_are_checked(rt: HostRuntime) -> Result<(), Fail> {
+    for (text, written) in &ACCEPTED {
+        expect(&rt, rt.alloc(), "check", text, Status::Done, written)?;
+    }
+    Ok(())
+}
+
+const NO_COMMANDS: [&str; 16] = [
     "",
     "serial",
     "serial -1",
@@ -421,6 +591,10 @@ const NO_COMMANDS: [&str; 12] = [
     "serial --",
     "-serial 0",
     "-- serial -- 0",
+    "show 0",
+    "show check",
+    "--journal show",
+    "Show",
 ];
 
 #[test]

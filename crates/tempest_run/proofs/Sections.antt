@@ -1,0 +1,68 @@
+-- The lines of a text's section are lines as they stand in a text.
+use Rattle.std.proofs.Common.{◌≡◌, ℕ, ◌*◌, List, [], ◌∷◌, ◌++◌, Result, Ok, Err, refl, ap, sym, subst}
+use Rattle.tw_base.specs.Answers.{◌>>=◌}
+use Rattle.tw_base.specs.Lists.{Each}
+use Rattle.tw_lex.specs.declared.token.Line.{Line}
+use Rattle.tw_lex.specs.declared.token.Lexed.{Lexed}
+use Rattle.tw_lex.specs.declared.token.LexError.{LexError}
+use Rattle.tw_lex.specs.declared.token.LexError.TheVariants.{NotAscii, BadToken, Memory}
+use Rattle.teapot_parse.specs.Given.{AreTextLines}
+use Rattle.tempest_input.specs.declared.layout.Body.{Body}
+use Rattle.tempest_input.specs.declared.layout.Choice.{Choice}
+use Rattle.tempest_input.specs.declared.layout.Choice.TheVariants as choices
+use Rattle.tempest_input.specs.declared.layout.Layout.{Layout}
+use Rattle.tempest_input.specs.declared.error.InputError.{InputError}
+use Rattle.tempest_input.specs.Laws.{IsChoice, IsLaidOut, IsOwn}
+use Rattle.tempest_input.specs.Numbers.{nodes_of, sizes_of, words_of}
+use Rattle.tempest_input.specs.Settings.{Settings, in_line, parsed, settings_of}
+use Rattle.tempest_run.specs.Inputs.{IsOfText}
+
+each-behind : {X : Type 0} (P : X → Type 0) (front rest : List X) → Each P (front ++ rest) → Each P rest
+each-behind P [] rest h = h
+each-behind P (x ∷ front) rest h = each-behind P front rest h.1
+
+each-front : {X : Type 0} (P : X → Type 0) (front rest : List X) → Each P (front ++ rest) → Each P front
+each-front P [] rest h = tt
+each-front P (x ∷ front) rest h = (h.0, each-front P front rest h.1)
+
+own-of-text : (version : ℕ) (choice : Choice) (lines : List Line) → IsChoice version choice lines → AreTextLines lines → IsOfText choice
+own-of-text version choices.Default lines h all = tt
+own-of-text version (choices.Own line body) lines h all =
+    let inner = subst AreTextLines h.lines_are all in
+    each-front _ body.lines (h.closing ∷ []) inner.1
+own-of-text version (choices.Shipped line which) lines h all = tt
+
+pub section-of-text : (lines : List Line) (l : Layout) → AreTextLines lines → IsLaidOut lines l → IsOfText l.protocol
+section-of-text lines l all h =
+    let whole = subst AreTextLines h.lines_are all in
+    let behind = each-behind _ h.programs h.protocol (each-behind _ h.inits (h.programs ++ h.protocol) (each-behind _ h.budget (h.inits ++ (h.programs ++ h.protocol)) whole.1.1.1.1)) in
+    own-of-text l.version.value l.protocol h.protocol h.protocol_is behind
+
+-- ---- what is found in a text
+
+bind-ok : {A B E : Type 0} (r : Result A E) (f : A → Result B E) (y : B) → (r >>= f) ≡ Ok y → (x : A) × (r ≡ Ok x) × (f x ≡ Ok y)
+bind-ok (Ok x) f y e = (x, refl, e)
+bind-ok (Err x) f y e = absurd cc
+
+pub in_line-ok : (r : Result Lexed LexError) (found : Lexed) → in_line r ≡ Ok found → r ≡ Ok found
+in_line-ok (Ok x) found e = ap again e
+  where
+    again : Result Lexed InputError → Result Lexed LexError
+    again (Ok d) = Ok d
+    again (Err x) = Err Memory
+in_line-ok (Err (NotAscii line)) found e = absurd cc
+in_line-ok (Err (BadToken line)) found e = absurd cc
+in_line-ok (Err Memory) found e = absurd cc
+
+abbrev protocol_or : Choice → Result Settings InputError → Choice
+protocol_or c (Ok s) = s.protocol
+protocol_or c (Err e) = c
+
+pub settings-protocol : (l : Layout) (s : Settings) → settings_of l ≡ Ok s → s.protocol ≡ l.protocol
+unfolding settings_of
+settings-protocol l s e =
+    let sizes = bind-ok (sizes_of l) _ s e in
+    let words = bind-ok (words_of (sizes.0.words * sizes.0.blocks) l.inits) _ s sizes.2 in
+    let nodes = bind-ok (nodes_of sizes.0.nodes l.programs) _ s words.2 in
+    let programs = bind-ok (parsed l.version.value l.programs) _ s nodes.2 in
+    sym (ap (protocol_or l.protocol) programs.2)

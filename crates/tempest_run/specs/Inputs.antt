@@ -1,0 +1,79 @@
+-- What a text gives: what it sets up, and the protocol that it brings along.
+use Rattle.std.specs.Prelude.{ℕ, List, Option, Some, None, Result, Ok, Err}
+use Rattle.tw_base.specs.Answers.{◌>>=◌}
+use Rattle.tw_lex.specs.Lines.{lexed}
+use Rattle.teapot_tree.specs.declared.protocol.Protocol.{Protocol}
+use Rattle.teapot_parse.specs.declared.reading.ParseError.{ParseError}
+use Rattle.teapot_parse.specs.declared.reading.ParseError.TheVariants as teapot
+use Rattle.teapot_parse.specs.Given.{AreTextLines}
+use Rattle.teapot_parse.specs.Parsing.{parsed}
+use Rattle.teapot_tree.specs.declared.rule.Rule.{Rule}
+use Rattle.teapot_tree.specs.declared.rule.Rule.TheVariants as rules
+use Rattle.teapot_rules.specs.declared.fault.Fault.{Fault}
+use Rattle.teapot_rules.specs.Firsts.{all_rules, first_of_rules}
+use Rattle.tempest_input.specs.declared.error.InputError.{InputError}
+use Rattle.tempest_input.specs.declared.error.InputError.TheVariants as errors
+use Rattle.tempest_input.specs.declared.error.Why.{Why}
+use Rattle.tempest_input.specs.declared.error.Why.TheVariants as why
+use Rattle.tempest_input.specs.declared.layout.Body.{Body}
+use Rattle.tempest_input.specs.declared.layout.Choice.{Choice}
+use Rattle.tempest_input.specs.declared.layout.Choice.TheVariants as choices
+use Rattle.tempest_input.specs.Layout.{laid_out}
+use Rattle.tempest_input.specs.Settings.{in_line, settings_of}
+use Rattle.tempest_run.specs.declared.input.Input.{Input}
+
+-- a protocol, or what its lines are refused for
+abbrev pub in_protocol : Result Protocol ParseError → Result Protocol InputError
+in_protocol (Ok p) = Ok p
+in_protocol (Err (teapot.BadLine line)) = Err (errors.Refused line why.BadLine)
+in_protocol (Err (teapot.BadNest line)) = Err (errors.Refused line why.BadNest)
+in_protocol (Err (teapot.TooMany what line)) = Err (errors.Refused line why.TooMany)
+in_protocol (Err teapot.Memory) = Err errors.Memory
+
+abbrev pub broken_rule : Rule → Why
+broken_rule rules.Undeclared = why.Undeclared
+broken_rule rules.Twice = why.Twice
+broken_rule rules.WrongType = why.WrongType
+broken_rule rules.ArgCount = why.ArgCount
+broken_rule rules.NoDefault = why.NoDefault
+broken_rule rules.ContDropped = why.ContDropped
+broken_rule rules.ResumeNotLast = why.ResumeNotLast
+broken_rule rules.ResumeForeign = why.ResumeForeign
+broken_rule rules.AfterSuspend = why.AfterSuspend
+broken_rule rules.NoData = why.NoData
+broken_rule rules.TooManySends = why.TooManySends
+broken_rule rules.NotTwoStarts = why.NotTwoStarts
+
+abbrev pub unless_broken : Option Fault → Protocol → Result Protocol InputError
+unless_broken None p = Ok p
+unless_broken (Some f) p = Err (errors.Refused f.line (broken_rule f.rule))
+
+-- a protocol that breaks no rule, or its first break
+unfoldable pub accepted : Protocol → Result Protocol InputError
+accepted p = unless_broken (first_of_rules p all_rules) p
+
+-- the protocol of a section, or its first fault
+unfoldable pub section_protocol : Body → Result Protocol InputError
+section_protocol body = in_protocol (parsed body.lines body.end) >>= λ p. accepted p
+
+-- the protocol of the text's section, if it has one
+abbrev pub own_protocol : Choice → Result (Option Protocol) InputError
+own_protocol choices.Default = Ok None
+own_protocol (choices.Own line body) = section_protocol body >>= λ p. Ok (Some p)
+own_protocol (choices.Shipped line which) = Ok None
+
+-- the lines of the section, if there is one, are as they stand in a text
+abbrev pub IsOfText : Choice → Type 0
+IsOfText choices.Default = Unit {0}
+IsOfText (choices.Own line body) = AreTextLines body.lines
+IsOfText (choices.Shipped line which) = Unit {0}
+
+-- What a text gives, or its first fault: first of its tokens, then of its layout, of its numbers, of its programs, and of
+-- its protocol.
+unfoldable pub input_of : List ℕ → Result Input InputError
+input_of text =
+    in_line (lexed text) >>= λ found.
+    laid_out found.all found.list >>= λ layout.
+    settings_of layout >>= λ setup.
+    own_protocol setup.protocol >>= λ own.
+    Ok (record { nodes = layout.nodes.line; setup = setup; own = own })
