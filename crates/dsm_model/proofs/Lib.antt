@@ -26,3 +26,7 @@ pub mod FirstSound
 pub mod Scheduling
 pub mod SameMessage
 pub mod Redelivering
+pub mod Handled
+pub mod StartFits
+pub mod RunStates
+pub mod Failing

@@ -20,7 +20,7 @@ named f t c m h =
     let front : (nat_eq m.from f && nat_eq m.to t) ≡ true = and_left (nat_eq m.from f && nat_eq m.to t) (chan_eq m.chan c) h in
     (eqb-true m.from f (and_left (nat_eq m.from f) (nat_eq m.to t) front), eqb-true m.to t (and_right (nat_eq m.from f) (nat_eq m.to t) front), chan_eq-true m.chan c (and_right (nat_eq m.from f && nat_eq m.to t) (chan_eq m.chan c) h))
 
-each_behind : (P : Message → Type 0) (xs ys : List Message) → Each P (xs ++ ys) → Each P ys
+pub each_behind : (P : Message → Type 0) (xs ys : List Message) → Each P (xs ++ ys) → Each P ys
 each_behind P [] ys h = h
 each_behind P (x ∷ xs) ys h = each_behind P xs ys h.1
 

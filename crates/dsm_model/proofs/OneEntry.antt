@@ -82,7 +82,7 @@ acts_enabled s g i front x e sends (act.Delivered kind block from chan number) h
     let at = h from chan p.message here p.is_front in
     (l, p.from_node, record { may = p.counts.may; none_eligible = p.none_eligible; message = p.message; rest = at.0; front = at.1; early = p.early })
 
-front_on_wire : (s : Setup) (g : World) (e : Entry) (g2 : World) (r : Step s g e g2) (f : ℕ) (c : Chan) (m : Message) → takes_from e.act f c ≡ true → r.front ≡ Some m → (rest : List Message) × (g.wires f e.node c ≡ m ∷ rest)
+pub front_on_wire : (s : Setup) (g : World) (e : Entry) (g2 : World) (r : Step s g e g2) (f : ℕ) (c : Chan) (m : Message) → takes_from e.act f c ≡ true → r.front ≡ Some m → (rest : List Message) × (g.wires f e.node c ≡ m ∷ rest)
 front_on_wire s g e g2 r f c m h q = (r.between f e.node c, r.takes f e.node c ∙ ap (λ (l : List Message). l ++ r.between f e.node c) (taken_here e r.front f e.node c m refl h q))
 
 pub step_enabled : (s : Setup) (g : World) (e : Entry) (g2 : World) → Step s g e g2 → IsEnabled s g (event_of e)

@@ -1,4 +1,4 @@
--- What every run keeps of the nodes and of the wires.
+-- What the program keeps of the nodes and of the wires.
 use Rattle.std.specs.Prelude.{◌≡◌, ℕ, ◌≤◌, ◌<◌, ◌^◌, nat_lt, ◌&&◌, Bool, true, length, List, Option, Some, None, slice_get, unwrap_or}
 use Rattle.std.specs.List.{list_all}
 use Rattle.tw_base.specs.declared.message.Chan.{Chan}

@@ -11,6 +11,7 @@ pub mod Globals
 pub mod Tests
 pub mod Views
 pub mod Kept
+pub mod Invariants
 pub mod Makes
 pub mod Posts
 pub mod Outcomes

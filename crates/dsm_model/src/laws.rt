@@ -12,6 +12,7 @@ ghost use Rattle.dsm_model.specs.Replays.{Course, Goes, Replays};
 ghost use Rattle.dsm_model.specs.Merges.{Agrees, AllReplay, IsJoined, IsMerge, joined, merged};
 ghost use Rattle.dsm_model.specs.Laws.{IsLog, IsNumbered, IsOn, IsWire};
 ghost use Rattle.dsm_model.specs.Schedules.{Settles};
+ghost use Rattle.dsm_model.specs.Invariants.{FailedNodesAreOver, FailedNodesStay, RunsKeepTheirState};
 
 /// Where each node is what the replay of its log makes of it, and on each wire what was taken and then what is left is what was sent,
 /// the merge of the logs is a run from the start. It reaches these nodes, with what is left on the wires.
@@ -93,4 +94,13 @@ pub fn schedules_are_one_run()
     ensures run { (s : Setup) (stride t : ℕ) (g : World) (es : List Entry) (h : World) → Settles s stride t g es h → Runs s g es h }
     ensures quiet { (s : Setup) (stride t : ℕ) (g : World) (es : List Entry) (h : World) → Settles s stride t g es h → IsQuiet s h }
     ensures one { (s : Setup) (stride t : ℕ) (g : World) (es fs : List Entry) (h k : World) → Settles s stride t g es h → Settles s stride t g fs k → (es ≡ fs) × (h ≡ k) }
+{}
+
+/// In every state of a run the blocks of each node fit the protocol, have their words and know where they are, and each
+/// message on a wire or deferred is one of the protocol, for a block of the machine. A node that failed makes no event,
+/// and stays as it is however the run goes on.
+pub fn what_every_run_keeps()
+    ensures states { RunsKeepTheirState }
+    ensures over { FailedNodesAreOver }
+    ensures stay { FailedNodesStay }
 {}
