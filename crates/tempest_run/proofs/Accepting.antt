@@ -1,5 +1,5 @@
 -- What the checker answers, by the first of all breaks.
-use Rattle.std.proofs.Common.{◌≡◌, ℕ, Option, Some, None, refl, ap, sym, ◌∙◌}
+use Rattle.std.proofs.Common.{◌≡◌, ℕ, Option, Some, None, refl, ap, ◌∙◌}
 use Rattle.teapot_tree.specs.declared.protocol.Protocol.{Protocol}
 use Rattle.teapot_tree.specs.declared.rule.Rule.{Rule}
 use Rattle.teapot_tree.specs.Grammar.{IsTree}

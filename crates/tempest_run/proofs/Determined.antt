@@ -1,13 +1,13 @@
 -- A run is the one that is computed, and a report has its prints.
-use Rattle.std.proofs.Common.{◌≡◌, ℕ, zero, suc, ◌+◌, List, [], ◌∷◌, ◌++◌, Option, Some, None, codes, refl, sym, ap, ◌∙◌}
+use Rattle.std.proofs.Common.{◌≡◌, ℕ, zero, suc, ◌+◌, List, [], ◌∷◌, ◌++◌, Option, Some, None, refl, sym, ap, ◌∙◌}
 use Rattle.std.specs.List.{flat_map}
 use Rattle.tw_base.specs.declared.entry.Act.{Act}
 use Rattle.tw_base.specs.declared.entry.Act.TheVariants as acts
 use Rattle.tw_base.specs.declared.entry.Entry.{Entry}
 use Rattle.mini_asm.specs.Run.{Machine}
-use Rattle.tempest_run.specs.Laws.{Executes, IsRun, ReportPrints, RunIsDetermined, RunIsThere, print_text, prints_of, with_print}
+use Rattle.tempest_run.specs.Laws.{IsRun, ReportPrints, RunIsDetermined, RunIsThere, print_text, prints_of, with_print}
 use Rattle.tempest_run.specs.Reports.{print_line, print_of, report_of}
-use Rattle.tempest_run.specs.Runs.{Run, and_then, entry_of, go_on, next_act, run_from}
+use Rattle.tempest_run.specs.Runs.{and_then, entry_of, go_on, next_act, run_from}
 
 one : (node left clock : ℕ) (m end : Machine) (journal : List Entry) → IsRun node left clock m journal end → run_from node left clock m ≡ record { journal = journal; machine = end }
 unfolding run_from

@@ -7,12 +7,11 @@ use Rattle.tw_lex.specs.declared.token.Lexed.{Lexed}
 use Rattle.tw_lex.specs.declared.token.LexError.{LexError}
 use Rattle.tw_lex.specs.declared.token.LexError.TheVariants.{NotAscii, BadToken, Memory}
 use Rattle.teapot_parse.specs.Given.{AreTextLines}
-use Rattle.tempest_input.specs.declared.layout.Body.{Body}
 use Rattle.tempest_input.specs.declared.layout.Choice.{Choice}
 use Rattle.tempest_input.specs.declared.layout.Choice.TheVariants as choices
 use Rattle.tempest_input.specs.declared.layout.Layout.{Layout}
 use Rattle.tempest_input.specs.declared.error.InputError.{InputError}
-use Rattle.tempest_input.specs.Laws.{IsChoice, IsLaidOut, IsOwn}
+use Rattle.tempest_input.specs.Laws.{IsChoice, IsLaidOut}
 use Rattle.tempest_input.specs.Numbers.{nodes_of, sizes_of, words_of}
 use Rattle.tempest_input.specs.Settings.{Settings, in_line, parsed, settings_of}
 use Rattle.tempest_run.specs.Inputs.{IsOfText}

@@ -1,8 +1,7 @@
 -- Words before and after the first `--`.
-use Rattle.std.proofs.Common.{◌≡◌, ℕ, ◌+◌, ◌≤◌, Bool, true, false, List, [], ◌∷◌, ◌++◌, length, map, None, Option, refl, ap, sym, ◌∙◌, arith, cond, not, take, drop, Some, ◌||◌}
+use Rattle.std.proofs.Common.{◌≡◌, ℕ, ◌+◌, ◌≤◌, Bool, List, [], ◌∷◌, ◌++◌, length, map, None, refl, ap, sym, arith, cond, not, take, drop, Some, ◌||◌}
 use Rattle.std.specs.List.{position, prefix_len, list_any}
 use Rattle.std.proofs.lemmas.List.{drop-map, length-append, length-map, take-map}
-use Rattle.tempest_run.specs.declared.words.Command.{Command}
 use Rattle.tempest_run.specs.Words.{asked, command_of, command_split, is_dashes}
 
 prefix_len-map : {X Y : Type 0} (p : Y → Bool) (f : X → Y) (xs : List X) → prefix_len p (map f xs) ≡ prefix_len (λ x. p (f x)) xs

@@ -1,4 +1,4 @@
-use Rattle.std.proofs.Common.{◌≡◌, ◌≤◌, length, ap, ◌∙◌, arith}
+use Rattle.std.proofs.Common.{length, ap, ◌∙◌, arith}
 use Rattle.std.proofs.lemmas.List.{length-replicate}
 use Rattle.tempest_run.proofs.Running.{run_from-length, run_from-cores}
 use Rattle.tempest_run.proofs.answer.report_answer.Goals as goal
