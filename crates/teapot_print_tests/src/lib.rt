@@ -3,8 +3,6 @@
 #![tactic(auto)]
 
 #[cfg(test)]
-mod protocols;
-#[cfg(test)]
 mod refusals;
 #[cfg(test)]
 mod spellings;

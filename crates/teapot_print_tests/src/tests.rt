@@ -1,10 +1,10 @@
-use crate::protocols::CANONICAL;
 use crate::{refusals, spellings};
 use std::alloc::Global;
 use std::process::Abort;
 use std::test::Fail;
 use teapot_parse::{ParseError, parse};
 use teapot_print::print;
+use teapot_samples::{DEAF, DEEP, DOUBLE, DROP, PING_PONG, STACHE, WALK};
 use teapot_tree::Protocol;
 use tw_lex::{LexError, lines, number_of};
 
@@ -58,7 +58,8 @@ fn disordered(alloc: Global, text: &[u8]) -> Result<Vec<u8>, Fail> {
 #[test]
 fn protocols_are_printed_as_they_stand(rt: HostRuntime) -> Result<(), Fail> {
     let alloc = rt.alloc();
-    for text in CANONICAL {
+    for text in [STACHE, DEAF, PING_PONG, DOUBLE, DEEP, DROP, WALK] {
+        let text = text.as_bytes();
         let again = reprinted(alloc, text)?;
         assert_eq!(rt; again.as_slice(), text);
         let other = disordered(alloc, text)?;

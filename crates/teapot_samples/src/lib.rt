@@ -1,8 +1,8 @@
-//! Protocols in their canonical spelling.
+//! Protocols in their canonical spelling, for tests of several crates.
+#![tactic(auto)]
 
-pub const CANONICAL: [&[u8]; 7] = [STACHE, DEAF, PING_PONG, DOUBLE, DEEP, DROP, WALK];
-
-const STACHE: &[u8] = b"Protocol Stache
+/// The protocol that is shipped, in its canonical spelling.
+pub const STACHE: &str = "Protocol Stache
 Message GET_RO() 0
 Message GET_RW() 0
 Message DATA_RO() 1 data
@@ -232,7 +232,8 @@ Begin
 End
 ";
 
-const DEAF: &[u8] = b"Protocol Deaf
+/// A home that answers nothing.
+pub const DEAF: &str = "Protocol Deaf
 Message GET() 0
 HomeStart H ReadWrite
 CacheStart I Invalid
@@ -254,7 +255,8 @@ Begin
 End
 ";
 
-const PING_PONG: &[u8] = b"Protocol PingPong
+/// Two nodes that answer each other without end.
+pub const PING_PONG: &str = "Protocol PingPong
 Message PING() 0
 HomeStart H ReadWrite
 CacheStart I Invalid
@@ -278,7 +280,8 @@ Begin
 End
 ";
 
-const DOUBLE: &[u8] = b"Protocol Double
+/// A home that gives its block away and keeps it: the memory breaks.
+pub const DOUBLE: &str = "Protocol Double
 Message GET() 0
 Message DATA() 1 data
 HomeStart H ReadWrite
@@ -317,7 +320,8 @@ Begin
 End
 ";
 
-const DEEP: &[u8] = b"Protocol Deep
+/// Suspensions within each other, one more than there may be.
+pub const DEEP: &str = "Protocol Deep
 Message NEST() 0
 HomeStart H ReadWrite
 CacheStart I Invalid
@@ -361,7 +365,8 @@ Begin
 End
 ";
 
-const DROP: &[u8] = b"Protocol Drop
+/// A state with a continuation that it drops.
+pub const DROP: &str = "Protocol Drop
 Message GO() 0
 HomeStart H ReadWrite
 CacheStart H ReadWrite
@@ -383,7 +388,8 @@ Begin
 End
 ";
 
-const WALK: &[u8] = b"Protocol Walk 2
+/// A loop with a suspension in it, of profile 2.
+pub const WALK: &str = "Protocol Walk 2
 Message GET() 0 data
 Message ASK() 1
 Message YES() 1
