@@ -29,7 +29,7 @@ type Row = (
     Option<(u32, Rule)>,
 );
 
-const BODIES: [Row; 71] = [
+const BODIES: [Row; 73] = [
     // what is used is declared and visible
     ("", "count := missing\n", "", Some((14, Rule::Undeclared))),
     ("", "missing := 1\n", "", Some((14, Rule::Undeclared))),
@@ -140,6 +140,7 @@ const BODIES: [Row; 71] = [
     ),
     // as many arguments stand as are declared
     ("", "Send(who, GO, 1)\n", "", Some((14, Rule::ArgCount))),
+    (" 2", "Send(who, GO, 1)\n", "", Some((14, Rule::ArgCount))),
     ("", "Send(who, DATA, 1)\n", "", Some((14, Rule::ArgCount))),
     (
         "",
@@ -153,6 +154,7 @@ const BODIES: [Row; 71] = [
     ("", "Send(who, DATA, 1, src)\n", "", None),
     // a continuation is not dropped
     ("", "", "SetState(H{})\n", Some((23, Rule::ContDropped))),
+    (" 2", "", "SetState(H{})\n", Some((23, Rule::ContDropped))),
     (
         "",
         "",
@@ -411,7 +413,7 @@ fn states_are_checked(rt: HostRuntime) -> Result<(), Fail> {
 const TAIL: &str = "State H{}\nBegin\nDefault\nBegin\nEnd\nEnd\n";
 
 // The lines before the state, and what is named.
-const HEADS: [(&str, Option<(u32, Rule)>); 16] = [
+const HEADS: [(&str, Option<(u32, Rule)>); 17] = [
     (
         "Protocol P\nHomeStart H ReadWrite\nCacheStart H Invalid\n",
         None,
@@ -468,6 +470,10 @@ const HEADS: [(&str, Option<(u32, Rule)>); 16] = [
     (
         "Protocol P 2\nHomeStart H ReadWrite\n",
         Some((1, Rule::NotTwoStarts)),
+    ),
+    (
+        "Protocol P 2\nHomeStart H ReadWrite\nCacheStart H Invalid\nState Z{}\nBegin\nEnd\n",
+        Some((4, Rule::NoDefault)),
     ),
     (
         "Protocol H\nMessage A() 0\nMessage B() 0\nHomeStart H Invalid\nCacheStart H ReadOnly\n",
