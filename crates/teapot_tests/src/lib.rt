@@ -1,5 +1,5 @@
-//! Tests of protocols from their texts: what handlers do, statement by statement, against results worked out by hand.
-//! It has no code of its own.
+//! Tests of protocols from their texts: what handlers do, statement by statement, against results worked out by hand;
+//! and of trees: words, copies. It has no code of its own.
 #![tactic(auto)]
 
 #[cfg(test)]
@@ -8,3 +8,5 @@ mod protocols;
 mod shown;
 #[cfg(test)]
 mod tests;
+#[cfg(test)]
+mod trees;

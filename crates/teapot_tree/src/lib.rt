@@ -11,8 +11,6 @@ mod laws;
 mod protocol;
 mod rule;
 mod stmt;
-#[cfg(test)]
-mod tests;
 
 pub use checked::Checked;
 pub use compare::{same, same_exprs, same_stmts};

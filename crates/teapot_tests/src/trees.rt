@@ -1,5 +1,5 @@
-use crate::{Expr, Keyword, copy_exprs, keyword_of, same_exprs};
 use std::test::Fail;
+use teapot_tree::{Expr, Keyword, copy_exprs, keyword_of, same_exprs};
 
 #[test]
 fn words(rt: HostRuntime) {
