@@ -10,7 +10,7 @@ use Rattle.teapot_tree.specs.declared.protocol.State.{State}
 use Rattle.teapot_tree.specs.declared.rule.Rule.TheVariants.{NotTwoStarts, Undeclared}
 use Rattle.teapot_tree.specs.Rules.{IsAccepted}
 use Rattle.dsm_model.specs.declared.local.Local.{Local as Node}
-use Rattle.dsm_model.specs.Setups.{IsSetup, Setup, first_here, start_state}
+use Rattle.dsm_runs.specs.Setups.{IsSetup, Setup, first_here, start_state}
 use Rattle.dsm_model.specs.Kept.{IsSound, is_served}
 use Rattle.dsm_model.proofs.Handlings.{both}
 use Rattle.dsm_model.proofs.States.{is_below-roll, position_below}

@@ -1,5 +1,5 @@
 -- A node that handles a message makes the model's event.
-use Rattle.std.proofs.Common.{◌≡◌, ◌≢◌, ℕ, zero, suc, ◌+◌, ◌<◌, ◌^◌, nat_lt, Bool, true, false, ◌&&◌, List, [], ◌∷◌, ◌++◌, length, map, set, Option, Some, None, refl, ap, sym, ◌∙◌, subst, arith, append-nil}
+use Rattle.std.proofs.Common.{◌≡◌, ◌≢◌, ℕ, zero, suc, ◌+◌, ◌<◌, ◌^◌, nat_lt, Bool, true, false, ◌&&◌, List, [], ◌∷◌, ◌++◌, length, map, set, Option, Some, None, refl, ap, sym, ◌∙◌, subst, arith}
 use Rattle.std.specs.Prelude.{slice_get, unwrap_or}
 use Rattle.std.specs.List.{list_all}
 use Rattle.std.proofs.Math.ListN.{length-set}
@@ -20,17 +20,17 @@ use Rattle.teapot_tree.specs.declared.protocol.Protocol.{Protocol}
 use Rattle.dsm_model.specs.declared.handle.Handling.{Handling}
 use Rattle.dsm_model.specs.declared.handle.Made.{Made}
 use Rattle.dsm_model.specs.declared.local.Local.{Local as Node}
-use Rattle.dsm_model.specs.declared.local.Mode.{Mode}
-use Rattle.dsm_model.specs.declared.local.Mode.TheVariants as mode
-use Rattle.dsm_model.specs.declared.local.Waiting.{Waiting}
-use Rattle.dsm_model.specs.Setups.{Setup, asked, first_here}
-use Rattle.dsm_model.specs.Locals.{Local, IsFirst, IsStale, MayHandle, MayInstruct, last_stamp}
-use Rattle.dsm_model.specs.Messages.{fault, message_of, outgoing}
-use Rattle.dsm_model.specs.Events.{Handles, IsRefused, after_of, free, freed_if, latest, mode_after, with_kept}
+use Rattle.dsm_runs.specs.declared.mode.Mode.{Mode}
+use Rattle.dsm_runs.specs.declared.mode.Mode.TheVariants as mode
+use Rattle.dsm_runs.specs.declared.mode.Waiting.{Waiting}
+use Rattle.dsm_runs.specs.Setups.{Setup, asked, first_here}
+use Rattle.dsm_runs.specs.Locals.{Local, IsFirst, IsStale, MayHandle, MayInstruct, last_stamp}
+use Rattle.dsm_runs.specs.Messages.{fault, message_of, outgoing}
+use Rattle.dsm_runs.specs.Events.{Handles, IsRefused, after_of, free, freed_if, latest, mode_after, with_kept}
 use Rattle.dsm_model.specs.Kept.{IsSound, is_for, is_served}
 use Rattle.dsm_model.specs.Makes.{IsHandling, IsMade, handled_entry, handled_node}
 use Rattle.dsm_model.specs.Views.{local_of}
-use Rattle.dsm_model.proofs.Lists.{and_left, and_right}
+use Rattle.dsm_runs.proofs.Lists.{and_left, and_right}
 
 -- ---- places of lists
 
@@ -83,6 +83,9 @@ kept_for n kept.No m ws g h = h
 kept_for n kept.Stale m ws g h = all-both (is_waiting_for n) ws (record { message = m; eligible = false } ∷ []) h (both (is_for n m) true g refl)
 kept_for n kept.Eligible m ws g h = all-both (is_waiting_for n) ws (record { message = m; eligible = true } ∷ []) h (both (is_for n m) true g refl)
 
+pub deferred_for : (n : ℕ) (k : Kept) (is : Bool) (m : Message) (ws ds : List Waiting) → is_for n m ≡ true → list_all (is_waiting_for n) ws ≡ true → ds ≡ with_kept k m (freed_if is m.block ws) → list_all (is_waiting_for n) ds ≡ true
+deferred_for n k is m ws ds g h e = ap (λ (xs : List Waiting). list_all (is_waiting_for n) xs) e ∙ kept_for n k m (freed_if is m.block ws) g (freed_if_for n m.block is ws h)
+
 -- ---- messages that are sent
 
 outgoing_for : (p : Protocol) (n i b stamp : ℕ) (os : List Out) → nat_lt b n ≡ true → list_all (is_for n) (outgoing p i b stamp os) ≡ true
@@ -101,45 +104,44 @@ sends_for p n i b stamp os sends e lt = ap (λ (ms : List Message). list_all (is
 block-is : (s : Setup) (me : ℕ) (l : Node) (b : ℕ) (here : Here) → slice_get l.blocks b ≡ Some here → (local_of s me l).blocks b ≡ here
 block-is s me l b here at = ap (λ (o : Option Here). unwrap_or o (first_here s me b)) at
 
-pub handles : (s : Setup) (me stamp : ℕ) (m : Message) (before : Local) (l : Node) (here : Here) (ws : List Waiting) (h : Handling)
-    → m.block < length l.blocks → slice_get l.blocks m.block ≡ Some here → IsHandling s me stamp m here ws h
-    → before.mode ≡ l.mode → before.cpu ≡ l.cpu → before.deferred ≡ ws → ((b : ℕ) → before.blocks b ≡ (local_of s me l).blocks b)
+pub handles : (s : Setup) (me stamp : ℕ) (m : Message) (before : Local) (l : Node) (here : Here) (h : Handling)
+    → m.block < length l.blocks → slice_get l.blocks m.block ≡ Some here → IsHandling s me stamp m here h
+    → before.mode ≡ l.mode → before.cpu ≡ l.cpu → l.deferred ≡ with_kept h.ended.kept m (freed_if h.ended.freed m.block before.deferred) → ((b : ℕ) → before.blocks b ≡ (local_of s me l).blocks b)
     → Handles s me stamp m before (local_of s me (handled_node l m.block stamp h)) h.sends (Some (after_of m.block h.ended))
-handles s me stamp m before l here ws h within at is mode cpu deferred blocks = record {
+handles s me stamp m before l here h within at is mode cpu deferred blocks = record {
   ended = h.ended;
   does = subst (λ (x : Here). Does s.protocol x m h.ended) (sym (blocks m.block ∙ block-is s me l m.block here at)) is.does;
   here = ap (λ (o : Option Here). unwrap_or o (first_here s me m.block)) (slice_get_same l.blocks m.block h.ended.here within);
   others = λ b d. ap (λ (o : Option Here). unwrap_or o (first_here s me b)) (slice_get_other l.blocks m.block b h.ended.here d) ∙ sym (blocks b);
   mode = ap (λ (x : Mode). mode_after h.ended.woke m.block x) (sym mode);
   failed = refl;
-  deferred = is.deferred ∙ ap (λ (x : List Waiting). with_kept h.ended.kept m (freed_if h.ended.freed m.block x)) (sym deferred);
+  deferred = deferred;
   cpu = sym cpu;
   outs = is.sends;
   leaves = refl;
 }
 
-pub handled_sound : (s : Setup) (me stamp : ℕ) (m : Message) (l : Node) (here : Here) (ws : List Waiting) (h : Handling)
-    → m.block < s.shape.blocks → IsSound s l → IsHandling s me stamp m here ws h → list_all (is_waiting_for s.shape.blocks) ws ≡ true → l.sent + length h.sends < 2 ^ 32
+pub handled_sound : (s : Setup) (me stamp : ℕ) (m : Message) (l : Node) (here : Here) (h : Handling)
+    → m.block < s.shape.blocks → IsSound s l → IsHandling s me stamp m here h → l.sent + length h.sends < 2 ^ 32
     → IsSound s (handled_node l m.block stamp h)
-handled_sound s me stamp m l here ws h within sound is waits few = record {
+handled_sound s me stamp m l here h within sound is few = record {
   count = length-set l.blocks m.block h.ended.here ∙ sound.count;
   served = all-set (is_served s) l.blocks m.block h.ended.here sound.served is.served;
-  deferred = ap (λ (x : List Waiting). list_all (is_waiting_for s.shape.blocks) x) is.deferred
-      ∙ kept_for s.shape.blocks h.ended.kept m (freed_if h.ended.freed m.block ws) ((Decides-ltb m.block s.shape.blocks).1 within) (freed_if_for s.shape.blocks m.block h.ended.freed ws waits);
+  deferred = sound.deferred;
   few = few;
 }
 
-pub handled_sends : (s : Setup) (me stamp : ℕ) (m : Message) (here : Here) (ws : List Waiting) (h : Handling) → m.block < s.shape.blocks → IsHandling s me stamp m here ws h → list_all (is_for s.shape.blocks) h.sends ≡ true
-handled_sends s me stamp m here ws h within is = sends_for s.protocol s.shape.blocks me m.block stamp h.ended.sends h.sends is.sends within
+pub handled_sends : (s : Setup) (me stamp : ℕ) (m : Message) (here : Here) (h : Handling) → m.block < s.shape.blocks → IsHandling s me stamp m here h → list_all (is_for s.shape.blocks) h.sends ≡ true
+handled_sends s me stamp m here h within is = sends_for s.protocol s.shape.blocks me m.block stamp h.ended.sends h.sends is.sends within
 
 -- a refused access
-pub fault_made : (s : Setup) (me : ℕ) (l : Node) (store : Bool) (b : ℕ) (here : Here) (h : Handling)
+pub fault_made : (s : Setup) (me : ℕ) (l : Node) (store : Bool) (b : ℕ) (here : Here) (h : Handling) (ds : List Waiting)
     → me < s.shape.nodes → MayInstruct s (local_of s me l) → IsSound s l → b < s.shape.blocks
     → IsRefused s (asked s me l.cpu) store b ((local_of s me l).blocks b).tag → slice_get l.blocks b ≡ Some here
-    → IsHandling s me (l.clock + 1) (fault store b me) here l.deferred h → l.sent + length h.sends < 2 ^ 32
-    → IsMade s me (event.Instr me) l None (handled_node (record l { mode = mode.Blocked b; instructions = l.instructions + 1 }) b (l.clock + 1) h)
+    → IsHandling s me (l.clock + 1) (fault store b me) here h → ds ≡ with_kept h.ended.kept (fault store b me) (freed_if h.ended.freed b l.deferred) → l.sent + length h.sends < 2 ^ 32
+    → IsMade s me (event.Instr me) l None (handled_node (record l { mode = mode.Blocked b; deferred = ds; instructions = l.instructions + 1 }) b (l.clock + 1) h)
     (record { entry = handled_entry me (act.Fault store b) b (l.clock + 1) h; sends = h.sends })
-fault_made s me l store b here h at_node may sound within refused at is few = record {
+fault_made s me l store b here h ds at_node may sound within refused at is waits few = record {
   step = record {
     at_node = at_node;
     node = refl;
@@ -150,23 +152,23 @@ fault_made s me l store b here h at_node may sound within refused at is few = re
     acts = record {
       instructs = record { may = may; no_front = refl; instructions = refl; handled = refl };
       refused = refused;
-      handles = handles s me (l.clock + 1) (fault store b me) (record (local_of s me l) { mode = mode.Blocked b }) (record l { mode = mode.Blocked b; instructions = l.instructions + 1 }) here l.deferred h
-          (omega (arith, sound.count)) at is refl refl refl (λ k. refl);
+      handles = handles s me (l.clock + 1) (fault store b me) (record (local_of s me l) { mode = mode.Blocked b }) (record l { mode = mode.Blocked b; deferred = ds; instructions = l.instructions + 1 }) here h
+          (omega (arith, sound.count)) at is refl refl waits (λ k. refl);
     };
   };
   event = refl;
-  sound = handled_sound s me (l.clock + 1) (fault store b me) (record l { mode = mode.Blocked b; instructions = l.instructions + 1 }) here l.deferred h within
-      (record { count = sound.count; served = sound.served; deferred = sound.deferred; few = sound.few }) is sound.deferred few;
-  blocks = handled_sends s me (l.clock + 1) (fault store b me) here l.deferred h within is;
+  sound = handled_sound s me (l.clock + 1) (fault store b me) (record l { mode = mode.Blocked b; deferred = ds; instructions = l.instructions + 1 }) here h within
+      (record { count = sound.count; served = sound.served; deferred = deferred_for s.shape.blocks h.ended.kept h.ended.freed (fault store b me) l.deferred ds ((Decides-ltb b s.shape.blocks).1 within) sound.deferred waits; few = sound.few }) is few;
+  blocks = handled_sends s me (l.clock + 1) (fault store b me) here h within is;
 }
 
 -- a redelivery
-pub redelivery_made : (s : Setup) (me : ℕ) (l : Node) (m : Message) (earlier later : List Waiting) (here : Here) (h : Handling)
+pub redelivery_made : (s : Setup) (me : ℕ) (l : Node) (m : Message) (earlier later : List Waiting) (here : Here) (h : Handling) (ds : List Waiting)
     → me < s.shape.nodes → MayHandle s (local_of s me l) → IsSound s l → IsFirst m earlier later l.deferred → m.block < s.shape.blocks → slice_get l.blocks m.block ≡ Some here
-    → IsHandling s me (l.clock + 1) m here (earlier ++ later) h → list_all (is_waiting_for s.shape.blocks) (earlier ++ later) ≡ true → l.sent + length h.sends < 2 ^ 32
-    → IsMade s me (event.Redeliver me) l None (handled_node (record l { handled = l.handled + 1 }) m.block (l.clock + 1) h)
+    → IsHandling s me (l.clock + 1) m here h → list_all (is_waiting_for s.shape.blocks) (earlier ++ later) ≡ true → ds ≡ with_kept h.ended.kept m (freed_if h.ended.freed m.block (earlier ++ later)) → l.sent + length h.sends < 2 ^ 32
+    → IsMade s me (event.Redeliver me) l None (handled_node (record l { deferred = ds; handled = l.handled + 1 }) m.block (l.clock + 1) h)
     (record { entry = handled_entry me (act.Redelivered m.kind m.block m.from) m.block (l.clock + 1) h; sends = h.sends })
-redelivery_made s me l m earlier later here h at_node may sound first within at is waits few = record {
+redelivery_made s me l m earlier later here h ds at_node may sound first within at is others waits few = record {
   step = record {
     at_node = at_node;
     node = refl;
@@ -184,23 +186,23 @@ redelivery_made s me l m earlier later here h at_node may sound first within at 
       of_kind = refl;
       of_block = refl;
       of_sender = refl;
-      handles = handles s me (l.clock + 1) m (record (local_of s me l) { deferred = earlier ++ later }) (record l { handled = l.handled + 1 }) here (earlier ++ later) h
-          (omega (arith, sound.count)) at is refl refl refl (λ k. refl);
+      handles = handles s me (l.clock + 1) m (record (local_of s me l) { deferred = earlier ++ later }) (record l { deferred = ds; handled = l.handled + 1 }) here h
+          (omega (arith, sound.count)) at is refl refl waits (λ k. refl);
     };
   };
   event = refl;
-  sound = handled_sound s me (l.clock + 1) m (record l { handled = l.handled + 1 }) here (earlier ++ later) h within
-      (record { count = sound.count; served = sound.served; deferred = sound.deferred; few = sound.few }) is waits few;
-  blocks = handled_sends s me (l.clock + 1) m here (earlier ++ later) h within is;
+  sound = handled_sound s me (l.clock + 1) m (record l { deferred = ds; handled = l.handled + 1 }) here h within
+      (record { count = sound.count; served = sound.served; deferred = deferred_for s.shape.blocks h.ended.kept h.ended.freed m (earlier ++ later) ds ((Decides-ltb m.block s.shape.blocks).1 within) others waits; few = sound.few }) is few;
+  blocks = handled_sends s me (l.clock + 1) m here h within is;
 }
 
 -- a delivery
-pub delivery_made : (s : Setup) (me : ℕ) (l : Node) (m : Message) (from : ℕ) (chan : Chan) (stamp : ℕ) (here : Here) (h : Handling)
+pub delivery_made : (s : Setup) (me : ℕ) (l : Node) (m : Message) (from : ℕ) (chan : Chan) (stamp : ℕ) (here : Here) (h : Handling) (ds : List Waiting)
     → me < s.shape.nodes → from < s.shape.nodes → MayHandle s (local_of s me l) → IsSound s l → Each IsStale l.deferred → m.stamp < last_stamp → m.block < s.shape.blocks → slice_get l.blocks m.block ≡ Some here
-    → stamp ≡ latest l.clock (Some m) + 1 → IsHandling s me stamp m here l.deferred h → l.sent + length h.sends < 2 ^ 32
-    → IsMade s me (event.Deliver me from chan) l (Some m) (handled_node (record l { handled = l.handled + 1 }) m.block stamp h)
+    → stamp ≡ latest l.clock (Some m) + 1 → IsHandling s me stamp m here h → ds ≡ with_kept h.ended.kept m (freed_if h.ended.freed m.block l.deferred) → l.sent + length h.sends < 2 ^ 32
+    → IsMade s me (event.Deliver me from chan) l (Some m) (handled_node (record l { deferred = ds; handled = l.handled + 1 }) m.block stamp h)
     (record { entry = handled_entry me (act.Delivered m.kind m.block from chan m.number) m.block stamp h; sends = h.sends })
-delivery_made s me l m from chan stamp here h at_node at_from may sound stale early within at later is few = record {
+delivery_made s me l m from chan stamp here h ds at_node at_from may sound stale early within at later is waits few = record {
   step = record {
     at_node = at_node;
     node = refl;
@@ -218,25 +220,20 @@ delivery_made s me l m from chan stamp here h at_node at_from may sound stale ea
       of_kind = refl;
       of_block = refl;
       of_number = refl;
-      handles = handles s me stamp m (local_of s me l) (record l { handled = l.handled + 1 }) here l.deferred h
-          (omega (arith, sound.count)) at is refl refl refl (λ k. refl);
+      handles = handles s me stamp m (local_of s me l) (record l { deferred = ds; handled = l.handled + 1 }) here h
+          (omega (arith, sound.count)) at is refl refl waits (λ k. refl);
     };
   };
   event = refl;
-  sound = handled_sound s me stamp m (record l { handled = l.handled + 1 }) here l.deferred h within
-      (record { count = sound.count; served = sound.served; deferred = sound.deferred; few = sound.few }) is sound.deferred few;
-  blocks = handled_sends s me stamp m here l.deferred h within is;
+  sound = handled_sound s me stamp m (record l { deferred = ds; handled = l.handled + 1 }) here h within
+      (record { count = sound.count; served = sound.served; deferred = deferred_for s.shape.blocks h.ended.kept h.ended.freed m l.deferred ds ((Decides-ltb m.block s.shape.blocks).1 within) sound.deferred waits; few = sound.few }) is few;
+  blocks = handled_sends s me stamp m here h within is;
 }
 
 -- ---- at the calls
 
-pub kept_behind : (k : Kept) (m : Message) (ws : List Waiting) → ws ++ with_kept k m [] ≡ with_kept k m ws
-kept_behind kept.No m ws = append-nil ws
-kept_behind kept.Stale m ws = refl
-kept_behind kept.Eligible m ws = refl
-
 pub made_same : (s : Setup) (me : ℕ) (e : Event) (old : Node) (front : Option Message) (n new : Node) (m made : Made) → new ≡ n → made ≡ m → IsMade s me e old front n m → IsMade s me e old front new made
 made_same s me e old front n new m made p q h = subst (λ (x : Node). IsMade s me e old front x made) (sym p) (subst (λ (y : Made). IsMade s me e old front n y) (sym q) h)
 
-pub handling_of : (s : Setup) (me stamp : ℕ) (m m2 : Message) (here : Here) (ws ws2 : List Waiting) (h : Handling) → m ≡ m2 → ws ≡ ws2 → IsHandling s me stamp m here ws h → IsHandling s me stamp m2 here ws2 h
-handling_of s me stamp m m2 here ws ws2 h p q is = subst (λ (x : Message). IsHandling s me stamp x here ws2 h) p (subst (λ (x : List Waiting). IsHandling s me stamp m here x h) q is)
+pub handling_of : (s : Setup) (me stamp : ℕ) (m m2 : Message) (here : Here) (h : Handling) → m ≡ m2 → IsHandling s me stamp m here h → IsHandling s me stamp m2 here h
+handling_of s me stamp m m2 here h p is = subst (λ (x : Message). IsHandling s me stamp x here h) p is

@@ -16,17 +16,17 @@ use Rattle.tw_base.specs.declared.message.Message.{Message}
 use Rattle.dsm_model.specs.declared.handle.Made.{Made}
 use Rattle.dsm_model.specs.declared.local.Local.{Local as Node}
 use Rattle.dsm_model.specs.declared.row.Row.{Row}
-use Rattle.dsm_model.specs.Setups.{Setup}
-use Rattle.dsm_model.specs.Events.{LocalStep}
+use Rattle.dsm_runs.specs.Setups.{Setup}
+use Rattle.dsm_runs.specs.Events.{LocalStep}
 use Rattle.dsm_model.specs.Kept.{AreSound, IsCounted, IsKept, IsSound, is_for, sent_at}
 use Rattle.dsm_model.specs.Makes.{IsMade}
-use Rattle.dsm_model.specs.Messages.{chan_eq, numbered, on_wire, posted}
+use Rattle.dsm_runs.specs.Messages.{chan_eq, numbered, on_wire, posted}
 use Rattle.dsm_model.specs.Posts.{HasBegun, HasSent, HasTaken}
 use Rattle.dsm_model.specs.Views.{AllRoom, local_at, local_of, nexts_of, state_of, wires_of}
-use Rattle.dsm_model.specs.Worlds.{Step, event_at, event_of, takes_from}
-use Rattle.dsm_model.proofs.Facts.{nothing_if, false_right}
-use Rattle.dsm_model.proofs.Lists.{Each-implied, and_left, and_right, length-numbered}
-use Rattle.dsm_model.proofs.Sends.{IsSent, step_sent}
+use Rattle.dsm_runs.specs.Worlds.{Step, event_at, event_of, takes_from}
+use Rattle.dsm_runs.proofs.Facts.{nothing_if, false_right}
+use Rattle.dsm_runs.proofs.Lists.{Each-implied, and_left, and_right, length-numbered}
+use Rattle.dsm_runs.proofs.Sends.{IsSent, step_sent}
 use Rattle.dsm_model.proofs.Handlings.{all-both, both, slice_get_other, slice_get_same}
 use Rattle.dsm_model.proofs.Posting.{few_pass, none_elsewhere}
 

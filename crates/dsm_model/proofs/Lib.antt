@@ -1,32 +1,12 @@
-pub mod Lists
-pub mod Meanings
-pub mod Sends
-pub mod Turns
-pub mod OneStep
-pub mod OneEnd
-pub mod Stamps
-pub mod Merging
-pub mod Shape
-pub mod Facts
-pub mod Bounds
-pub mod GoingOn
-pub mod Orders
-pub mod OneEntry
-pub mod OnWires
-pub mod Quiet
-pub mod Testing
-pub mod Starting
-pub mod WordsAtStart
-pub mod States
-pub mod Handlings
-pub mod Completing
-pub mod Posting
-pub mod Keeping
-pub mod FirstSound
-pub mod Scheduling
-pub mod SameMessage
-pub mod Redelivering
-pub mod Handled
-pub mod StartFits
-pub mod RunStates
-pub mod Failing
+mod Starting
+mod States
+mod Handlings
+mod Completing
+mod Copies
+mod Choosing
+mod Deferring
+mod Posting
+mod Keeping
+mod FirstSound
+mod SameMessage
+mod Redelivering

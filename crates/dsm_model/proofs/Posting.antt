@@ -13,11 +13,11 @@ use Rattle.tw_base.specs.declared.message.Chan.{Chan}
 use Rattle.tw_base.specs.declared.message.Chan.TheVariants.{Zero, One}
 use Rattle.tw_base.specs.declared.message.Message.{Message}
 use Rattle.dsm_model.specs.declared.row.Row.{Row}
-use Rattle.dsm_model.specs.Messages.{chan_eq, on_wire, posted, numbered}
+use Rattle.dsm_runs.specs.Messages.{chan_eq, on_wire, posted, numbered}
 use Rattle.dsm_model.specs.Posts.{HasBegun, HasDropped, HasPosted, HasSent, HasTaken}
 use Rattle.dsm_model.specs.Views.{AllRoom, HasRoom, next_in, nexts_of, place, queue_of, wires_of}
-use Rattle.dsm_model.proofs.Lists.{and_left, and_right, chan_eq-true, nat_eq_refl, numbered-append}
-use Rattle.dsm_model.proofs.Turns.{nat_eq_other}
+use Rattle.dsm_runs.proofs.Lists.{and_left, and_right, chan_eq-true, nat_eq_refl, numbered-append}
+use Rattle.dsm_runs.proofs.Turns.{nat_eq_other}
 use Rattle.dsm_model.proofs.Handlings.{slice_get_other, slice_get_same}
 
 posted-append : (k f t : ℕ) (c : Chan) (xs ys : List Message) → posted k f t c (xs ++ ys) ≡ posted k f t c xs ++ posted (k + length (filter (on_wire f t c) xs)) f t c ys

@@ -6,10 +6,10 @@ use Rattle.std.proofs.lemmas.Bool.Decides.{Decides-ltb}
 use Rattle.std.proofs.lemmas.List.Folds.{list_all-append}
 use Rattle.tw_base.specs.Lists.{Each}
 use Rattle.tw_base.specs.declared.message.Message.{Message}
-use Rattle.dsm_model.specs.declared.local.Waiting.{Waiting}
+use Rattle.dsm_runs.specs.declared.mode.Waiting.{Waiting}
 use Rattle.dsm_model.specs.Kept.{is_for}
-use Rattle.dsm_model.specs.Locals.{IsFirst, IsStale}
-use Rattle.dsm_model.proofs.Lists.{and_left, and_right}
+use Rattle.dsm_runs.specs.Locals.{IsFirst, IsStale}
+use Rattle.dsm_runs.proofs.Lists.{and_left, and_right}
 use Rattle.dsm_model.proofs.Handlings.{both, is_waiting_for}
 
 abbrev eligible : Message → Waiting
@@ -26,11 +26,15 @@ before_is m (w ∷ earlier) later h =
 abbrev place_in : ℕ → ℕ → Option ℕ
 place_in k n = if nat_lt k n then Some k else None
 
+pub first_within : (ws : List Waiting) (m : Message) (earlier later : List Waiting) → IsFirst m earlier later ws → length earlier < length ws
+first_within ws m earlier later h =
+    let long : length ws ≡ length (earlier ++ eligible m ∷ later) = ap (λ (xs : List Waiting). length xs) h.found in
+    omega (arith, long, length-append earlier (eligible m ∷ later))
+
 pub place_is : (ws : List Waiting) (m : Message) (earlier later : List Waiting) → IsFirst m earlier later ws → position (λ w. w.eligible) ws ≡ Some (length earlier)
 place_is ws m earlier later h =
     let at : position_or_len (λ w. w.eligible) ws ≡ length earlier = ap (λ (xs : List Waiting). position_or_len (λ w. w.eligible) xs) h.found ∙ before_is m earlier later h.stale in
-    let long : length ws ≡ length (earlier ++ eligible m ∷ later) = ap (λ (xs : List Waiting). length xs) h.found in
-    let lt : length earlier < length ws = omega (arith, long, length-append earlier (eligible m ∷ later)) in
+    let lt : length earlier < length ws = first_within ws m earlier later h in
     ap (λ k. place_in k (length ws)) at ∙ ap (λ b. if b then Some (length earlier) else None) ((Decides-ltb (length earlier) (length ws)).1 lt)
 
 cut : (m : Message) (earlier later : List Waiting) (d : Waiting) → Each IsStale earlier

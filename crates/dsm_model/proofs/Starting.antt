@@ -13,9 +13,9 @@ use Rattle.tw_base.specs.declared.message.Chan.{Chan}
 use Rattle.tw_base.specs.declared.message.Message.{Message}
 use Rattle.dsm_model.specs.declared.local.Local.{Local as Node}
 use Rattle.dsm_model.specs.declared.row.Row.{Row}
-use Rattle.dsm_model.specs.Setups.{Setup}
+use Rattle.dsm_runs.specs.Setups.{Setup}
 use Rattle.dsm_model.specs.Kept.{AreSound, IsSound}
-use Rattle.dsm_model.specs.Locals.{first}
+use Rattle.dsm_runs.specs.Locals.{first}
 use Rattle.dsm_model.specs.Views.{AllRoom, HasRoom, local_of, locals_of, next_in, nexts_of, queue_of, wires_of}
 
 pub init-all : (size : ℕ) (init : List (ℕ × ℕ)) → IsInit size init → All (λ p. p.0 < size) init

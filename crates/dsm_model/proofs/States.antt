@@ -24,7 +24,7 @@ use Rattle.teapot_meaning.specs.declared.state.Next.TheVariants.{On, Over}
 use Rattle.teapot_meaning.specs.declared.state.Running.{Running}
 use Rattle.teapot_meaning.specs.declared.state.StateVal.{StateVal, out-StateVal, roll-StateVal, fold_out-StateVal, fold-roll-StateVal, map-StateVal}
 use Rattle.dsm_model.specs.Kept.{is_below}
-use Rattle.dsm_model.proofs.Lists.{and_left, and_right}
+use Rattle.dsm_runs.proofs.Lists.{and_left, and_right}
 
 -- what is to be resumed
 abbrev below_cont : ℕ → Option Cont → Bool

@@ -1,7 +1,7 @@
 -- All nodes and wires that the program keeps, as a state of the model.
 use Rattle.dsm_model.specs.declared.global.Global.{Global}
-use Rattle.dsm_model.specs.Setups.{Setup}
-use Rattle.dsm_model.specs.Worlds.{World}
+use Rattle.dsm_runs.specs.Setups.{Setup}
+use Rattle.dsm_runs.specs.Worlds.{World}
 use Rattle.dsm_model.specs.Views.{state_of}
 
 abbrev pub setup_of : Global → Setup

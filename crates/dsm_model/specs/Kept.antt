@@ -7,7 +7,7 @@ use Rattle.teapot_meaning.specs.declared.state.Here.{Here}
 use Rattle.teapot_meaning.specs.declared.state.StateVal.{StateVal, fold-StateVal}
 use Rattle.dsm_model.specs.declared.local.Local.{Local as Node}
 use Rattle.dsm_model.specs.declared.row.Row.{Row}
-use Rattle.dsm_model.specs.Setups.{Setup}
+use Rattle.dsm_runs.specs.Setups.{Setup}
 use Rattle.dsm_model.specs.Views.{AllRoom, nexts_of, wires_of}
 
 -- whether a state, and each that is to be resumed from it, is one of the first n

@@ -1,5 +1,5 @@
 -- What the program makes of an event at a node.
-use Rattle.std.specs.Prelude.{◌≡◌, ℕ, ◌+◌, ◌<◌, ◌^◌, true, length, List, Option, Some, None, slice_set}
+use Rattle.std.specs.Prelude.{◌≡◌, ℕ, ◌+◌, ◌<◌, ◌^◌, true, length, Option, Some, None, slice_set}
 use Rattle.std.specs.List.{list_all}
 use Rattle.tw_base.specs.declared.entry.Act.{Act}
 use Rattle.tw_base.specs.declared.entry.Entry.{Entry}
@@ -11,31 +11,28 @@ use Rattle.teapot_meaning.specs.declared.state.Here.{Here}
 use Rattle.dsm_model.specs.declared.handle.Handling.{Handling}
 use Rattle.dsm_model.specs.declared.handle.Made.{Made}
 use Rattle.dsm_model.specs.declared.local.Local.{Local as Node}
-use Rattle.dsm_model.specs.declared.local.Mode.{Mode}
-use Rattle.dsm_model.specs.declared.local.Waiting.{Waiting}
-use Rattle.dsm_model.specs.Setups.{Setup}
-use Rattle.dsm_model.specs.Messages.{outgoing}
-use Rattle.dsm_model.specs.Events.{LocalStep, after_of, failure, freed_if, mode_after, with_kept}
-use Rattle.dsm_model.specs.Worlds.{event_at}
+use Rattle.dsm_runs.specs.declared.mode.Mode.{Mode}
+use Rattle.dsm_runs.specs.Setups.{Setup}
+use Rattle.dsm_runs.specs.Messages.{outgoing}
+use Rattle.dsm_runs.specs.Events.{LocalStep, after_of, failure, mode_after}
+use Rattle.dsm_runs.specs.Worlds.{event_at}
 use Rattle.dsm_model.specs.Kept.{IsSound, is_for, is_served}
 use Rattle.dsm_model.specs.Views.{local_of}
 
--- what a node does with a message, where these messages are deferred
-pub record IsHandling (s : Setup) (me stamp : ℕ) (m : Message) (here : Here) (ws : List Waiting) (h : Handling) : Type 0 where
+-- what a node does with a message at a block
+pub record IsHandling (s : Setup) (me stamp : ℕ) (m : Message) (here : Here) (h : Handling) : Type 0 where
   pub does : Does s.protocol here m h.ended
   pub sends : h.sends ≡ outgoing s.protocol me m.block stamp h.ended.sends
-  pub deferred : h.deferred ≡ with_kept h.ended.kept m (freed_if h.ended.freed m.block ws)
   pub served : is_served s h.ended.here ≡ true
   pub few : length h.sends < 2 ^ 16
 
--- the node after it
+-- the node after it, but for the messages that it deferred
 abbrev pub handled_node : Node → ℕ → ℕ → Handling → Node
 handled_node l block stamp h = record l {
   mode = mode_after h.ended.woke block l.mode;
   failed = failure h.ended.end;
   clock = stamp;
   blocks = slice_set l.blocks block h.ended.here;
-  deferred = h.deferred;
   sent = l.sent + length h.sends;
 }
 

@@ -4,7 +4,7 @@ use Rattle.std.specs.List.{filter}
 use Rattle.tw_base.specs.declared.message.Chan.{Chan}
 use Rattle.tw_base.specs.declared.message.Message.{Message}
 use Rattle.dsm_model.specs.declared.row.Row.{Row}
-use Rattle.dsm_model.specs.Messages.{chan_eq, on_wire, posted}
+use Rattle.dsm_runs.specs.Messages.{chan_eq, on_wire, posted}
 use Rattle.dsm_model.specs.Views.{AllRoom, HasRoom, next_in, nexts_of, queue_of, wires_of}
 
 -- the row has lost what stood at the front of one wire

@@ -6,9 +6,9 @@ use Rattle.tw_base.specs.declared.message.Chan.TheVariants.{Zero, One}
 use Rattle.tw_base.specs.declared.message.Message.{Message}
 use Rattle.dsm_model.specs.declared.local.Local.{Local as Node}
 use Rattle.dsm_model.specs.declared.row.Row.{Row}
-use Rattle.dsm_model.specs.Setups.{Setup, first_here}
-use Rattle.dsm_model.specs.Locals.{Local, first}
-use Rattle.dsm_model.specs.Worlds.{Wires, World}
+use Rattle.dsm_runs.specs.Setups.{Setup, first_here}
+use Rattle.dsm_runs.specs.Locals.{Local, first}
+use Rattle.dsm_runs.specs.Worlds.{Wires, World}
 
 -- a node; a block that it does not have is as at the start
 abbrev pub local_of : Setup → ℕ → Node → Local

@@ -1,9 +1,9 @@
 ghost use Rattle.std.specs.Prelude.{◌≡◌, ◌↔◌, IsTrue, nat_lt};
 ghost use Rattle.std.specs.Option.{option_copied};
 ghost use Rattle.dsm_model.specs.Globals.{setup_of, world_of};
-ghost use Rattle.dsm_model.specs.Tests.{is_ready, is_woken, may_instruct, may_handle, has_eligible, is_early, is_enabled};
+ghost use Rattle.dsm_runs.specs.Tests.{is_ready, is_woken, may_instruct, may_handle, has_eligible, is_early, is_enabled};
 ghost use Rattle.dsm_model.specs.Views.{local_of};
-ghost use Rattle.dsm_model.specs.Worlds.{IsEnabled};
+ghost use Rattle.dsm_runs.specs.Worlds.{IsEnabled};
 
 use crate::{Global, Local, Mode, Setup, Waiting};
 use tw_base::{Event, Message, NodeId};
@@ -21,7 +21,7 @@ fn is_woken(mode: Mode) -> bool
 }
 
 /// Whether the instruction event of a node is enabled.
-fn may_instruct(setup: &Setup, me: NodeId, l: &Local) -> bool
+pub fn may_instruct(setup: &Setup, me: NodeId, l: &Local) -> bool
     ensures { result ≡ may_instruct setup.now (local_of setup.now me l.now) }
 {
     let shape = setup.shape();
@@ -33,7 +33,7 @@ fn may_instruct(setup: &Setup, me: NodeId, l: &Local) -> bool
 }
 
 /// What a redelivery and a delivery both need of a node.
-fn may_handle(setup: &Setup, me: NodeId, l: &Local) -> bool
+pub fn may_handle(setup: &Setup, me: NodeId, l: &Local) -> bool
     ensures { result ≡ may_handle setup.now (local_of setup.now me l.now) }
 {
     let shape = setup.shape();
@@ -44,13 +44,13 @@ fn may_handle(setup: &Setup, me: NodeId, l: &Local) -> bool
         && l.clock < u64::MAX
 }
 
-fn has_eligible(deferred: &[Waiting]) -> bool
+pub fn has_eligible(deferred: &[Waiting]) -> bool
     ensures { result ≡ has_eligible deferred.now }
 {
     deferred.iter().any(|waiting| waiting.eligible)
 }
 
-fn is_early(front: Option<&Message>) -> bool
+pub fn is_early(front: Option<&Message>) -> bool
     ensures { result ≡ is_early (option_copied front.entry) }
 {
     match front {

@@ -3,8 +3,8 @@ ghost use Rattle.std.specs.List.{range_with_len};
 ghost use Rattle.std.specs.Option.{option_copied};
 ghost use Rattle.teapot_meaning.specs.Does.{zero_of};
 ghost use Rattle.dsm_model.specs.Kept.{IsSound};
-ghost use Rattle.dsm_model.specs.Locals.{first};
-ghost use Rattle.dsm_model.specs.Setups.{first_copies, first_here, start_line, start_state, start_tag};
+ghost use Rattle.dsm_runs.specs.Locals.{first};
+ghost use Rattle.dsm_runs.specs.Setups.{first_copies, first_here, start_line, start_state, start_tag};
 ghost use Rattle.dsm_model.specs.Views.{local_of};
 
 use crate::{Local, Mode, Setup};

@@ -1,18 +1,20 @@
 ghost use Rattle.std.specs.Prelude.{◌≡◌, ◌<◌, ◌^◌, ℕ, [], length, slice_get, IfOk};
 ghost use Rattle.std.specs.Option.{option_copied};
 ghost use Rattle.tw_base.specs.declared.message.Chan.{Chan};
-ghost use Rattle.dsm_model.specs.Locals.{first};
+ghost use Rattle.dsm_runs.specs.Locals.{first};
 ghost use Rattle.dsm_model.specs.Kept.{AreSound, IsKept};
 ghost use Rattle.dsm_model.specs.Views.{AllRoom, wires_of, nexts_of, locals_of, local_of};
 
 use crate::first::first;
+use crate::instruct::{block_at, permits, place, word};
 use crate::make::make;
 use crate::queue::Queue;
 use crate::row::Row;
 use crate::wires::wire;
 use crate::{Local, Setup};
 use std::alloc;
-use tw_base::{Chan, Entry, Event, Memory, Message, NodeId};
+use teapot_meaning::Here;
+use tw_base::{BlockId, Chan, Entry, Event, Memory, Message, NodeId};
 
 /// All nodes, and the wires between them.
 #[derive(Debug, Drop)]
@@ -52,8 +54,11 @@ fn first_rows(alloc: alloc::Global, count: usize) -> Result<Vec<Row>, Memory>
 }
 
 impl<'a> Global<'a> {
+    ghost use Rattle.block_tags.specs.Copies.{permits};
     ghost use Rattle.dsm_model.specs.Globals.{setup_of, world_of};
-    ghost use Rattle.dsm_model.specs.Worlds.{IsEnabled, Step, event_of, start};
+    ghost use Rattle.dsm_runs.specs.Events.{word_here};
+    ghost use Rattle.dsm_runs.specs.Setups.{size_of};
+    ghost use Rattle.dsm_runs.specs.Worlds.{IsEnabled, Step, event_of, start};
 
     /// The state at the start.
     pub fn new(alloc: alloc::Global, setup: &'a Setup) -> Result<Self, Memory>
@@ -81,6 +86,34 @@ impl<'a> Global<'a> {
         ensures { local_of (setup_of self.now) node result.now ≡ (world_of self.now).locals node }
     {
         &self.locals[usize::from(node.get())]
+    }
+
+    /// A block at a node.
+    pub fn block(&self, node: NodeId, block: BlockId) -> &Here
+        requires node { node < (setup_of self.now).shape.nodes }
+        requires block { block < (setup_of self.now).shape.blocks }
+        ensures { result.now ≡ ((world_of self.now).locals node).blocks block }
+    {
+        block_at(&self.locals[usize::from(node.get())], block)
+    }
+
+    /// Whether the tag of a block at a node permits a store, or a load.
+    pub fn permits(&self, node: NodeId, block: BlockId, store: bool) -> bool
+        requires node { node < (setup_of self.now).shape.nodes }
+        requires block { block < (setup_of self.now).shape.blocks }
+        ensures { result ≡ permits (((world_of self.now).locals node).blocks block).tag store }
+    {
+        permits(self.block(node, block).tag, store)
+    }
+
+    /// A node's copy of the word at an address.
+    pub fn word(&self, node: NodeId, address: u32) -> u64
+        requires node { node < (setup_of self.now).shape.nodes }
+        requires address { address < size_of (setup_of self.now) }
+        ensures { result ≡ word_here (setup_of self.now) ((world_of self.now).locals node).blocks address }
+    {
+        let (block, offset) = place(self.setup, address);
+        word(self.block(node, block).words, offset)
     }
 
     fn wire(&self, from: NodeId, to: NodeId, chan: Chan) -> &Queue

@@ -1,9 +1,9 @@
-ghost use Rattle.std.specs.Prelude.{◌≡◌, ◌<◌, ◌+◌, ◌^◌, true, map, length, [], ◌∷◌, IfOk};
-ghost use Rattle.dsm_model.specs.Args.{padded_args, used_args};
-ghost use Rattle.dsm_model.specs.Events.{failure, free, freed_if, mode_after, with_kept};
+ghost use Rattle.std.specs.Prelude.{◌≡◌, ◌≤◌, ◌<◌, ◌+◌, ◌++◌, ◌^◌, true, map, take, drop, length, IfOk, OnOk, OnErr};
+ghost use Rattle.dsm_runs.specs.Args.{padded_args, used_args};
+ghost use Rattle.dsm_runs.specs.Events.{failure, free, freed_if, mode_after, with_kept};
 ghost use Rattle.dsm_model.specs.Kept.{is_served};
 ghost use Rattle.dsm_model.specs.Makes.{IsHandling, handled_entry, handled_node};
-ghost use Rattle.dsm_model.specs.Messages.{chan_of, fault, message_of, outgoing};
+ghost use Rattle.dsm_runs.specs.Messages.{chan_of, fault, message_of, outgoing};
 
 use crate::{Local, Mode, Setup, Waiting};
 use std::alloc::Global;
@@ -13,13 +13,11 @@ use tw_base::{
     Act, After, BlockId, Chan, End, Entry, Kind, Listed, Memory, Message, NodeId, Value,
 };
 
-/// What a node does with a message: the block as its handler leaves it, the messages sent, which have no numbers yet, and
-/// the messages that are deferred then.
+/// What a node does with a message: the block as its handler leaves it, and the messages sent, which have no numbers yet.
 #[derive(Debug, Drop)]
 pub struct Handling {
     pub ended: Ended,
     pub sends: Listed<Message>,
-    pub deferred: Listed<Waiting>,
 }
 
 /// An event of a node: its entry, and the messages sent, which have no numbers yet.
@@ -120,46 +118,42 @@ fn free(waiting: Waiting, block: BlockId) -> Waiting
     }
 }
 
-fn freed(alloc: Global, block: BlockId, deferred: &[Waiting]) -> Result<Listed<Waiting>, Memory>
-    ensures { IfOk result (λ ws. ws ≡ map (free block) deferred.now) }
+/// Frees those of the first messages that wait for a block.
+fn free_first(deferred: &mut Listed<Waiting>, count: usize, block: BlockId)
+    requires { count ≤ length deferred.old }
+    ensures { deferred.new ≡ map (free block) (take count deferred.old) ++ drop count deferred.old }
 {
-    let mut ws = Listed::new(alloc);
-    for waiting in deferred {
-        ws.push(free(*waiting, block))?;
-    }
-    Ok(ws)
-}
-
-fn freed_if(
-    alloc: Global,
-    is_freed: bool,
-    block: BlockId,
-    deferred: &[Waiting],
-) -> Result<Listed<Waiting>, Memory>
-    ensures { IfOk result (λ ws. ws ≡ freed_if is_freed block deferred.now) }
-{
-    if is_freed {
-        freed(alloc, block, deferred)
-    } else {
-        Listed::from_slice(alloc, deferred)
+    for at in 0..count {
+        let freed = free(deferred.items()[at], block);
+        deferred.set(at, freed);
     }
 }
 
-fn one(alloc: Global, message: Message, eligible: bool) -> Result<Listed<Waiting>, Memory>
-    ensures { IfOk result (λ ws. ws ≡ record { message = message; eligible = eligible } ∷ []) }
+/// Puts a message behind the others that are deferred, if its handler says so.
+fn keep(deferred: &mut Listed<Waiting>, kept: Kept, message: Message) -> Result<(), Memory>
+    ensures ok { OnOk result (deferred.new ≡ with_kept kept message deferred.old) }
+    ensures err { OnErr result (deferred.new ≡ deferred.old) }
 {
-    Listed::from_slice(alloc, &[Waiting { message, eligible }])
+    let _parts = (message.args[0], message.payload);
+    let eligible = match kept {
+        Kept::No => return Ok(()),
+        Kept::Stale => false,
+        Kept::Eligible => true,
+    };
+    deferred.push(Waiting { message, eligible })
 }
 
-/// What is put behind the deferred messages.
-fn kept(alloc: Global, kept: Kept, message: Message) -> Result<Listed<Waiting>, Memory>
-    ensures { IfOk result (λ ws. ws ≡ with_kept kept message []) }
+/// What the handler of a message does to the messages that are deferred. After an Err they are as before.
+pub fn defer(deferred: &mut Listed<Waiting>, ended: &Ended, message: &Message) -> Result<(), Memory>
+    ensures ok { OnOk result (deferred.new ≡ with_kept ended.now.kept message.now (freed_if ended.now.freed message.now.block deferred.old)) }
+    ensures err { OnErr result (deferred.new ≡ deferred.old) }
 {
-    match kept {
-        Kept::No => Ok(Listed::new(alloc)),
-        Kept::Stale => one(alloc, message, false),
-        Kept::Eligible => one(alloc, message, true),
+    let count = deferred.len();
+    keep(deferred, ended.kept, *message)?;
+    if ended.freed {
+        free_first(deferred, count, message.block);
     }
+    Ok(())
 }
 
 fn failure(end: End) -> Option<End>
@@ -186,7 +180,7 @@ fn mode_after(woke: bool, block: BlockId, mode: Mode) -> Mode
     }
 }
 
-/// Handles a message at a block. `deferred` are the other messages that are deferred. Nothing changes at the node.
+/// Handles a message at a block. Nothing changes at the node.
 ///
 /// Want of memory is the only error, and a handler that sends 65,536 messages or more is taken as such.
 pub fn handle(
@@ -196,10 +190,9 @@ pub fn handle(
     stamp: u64,
     message: &Message,
     here: &Here,
-    deferred: &[Waiting],
 ) -> Result<Handling, Memory>
     requires { is_served setup.now here.now ≡ true }
-    ensures { IfOk result (IsHandling setup.now me stamp message.now here.now deferred.now) }
+    ensures { IfOk result (IsHandling setup.now me stamp message.now here.now) }
 {
     let protocol = setup.protocol();
     let ended = run(alloc, protocol, here, message)?;
@@ -208,17 +201,10 @@ pub fn handle(
     if sends.len() > usize::from(u16::MAX) {
         return Err(Memory);
     }
-    let mut deferred = freed_if(alloc, ended.freed, message.block, deferred)?;
-    let more = kept(alloc, ended.kept, *message)?;
-    deferred.append(more)?;
-    Ok(Handling {
-        ended,
-        sends,
-        deferred,
-    })
+    Ok(Handling { ended, sends })
 }
 
-/// The node comes to be as the handling leaves it.
+/// The node comes to be as the handling leaves it, but for the messages that it deferred.
 pub fn adopt(
     l: &mut Local,
     me: NodeId,
@@ -233,11 +219,7 @@ pub fn adopt(
     ensures node { l.new ≡ handled_node l.old block stamp handling }
     ensures made { result ≡ record { entry = handled_entry me act block stamp handling; sends = handling.sends } }
 {
-    let Handling {
-        ended,
-        sends,
-        deferred,
-    } = handling;
+    let Handling { ended, sends } = handling;
     let count = sends.len();
     let after = After {
         block,
@@ -249,7 +231,6 @@ pub fn adopt(
     l.failed = failure(ended.end);
     l.clock = stamp;
     l.sent += count as u32;
-    l.deferred = deferred;
     l.blocks.set(usize::from(block.get()), ended.here);
     Made {
         entry: Entry {

@@ -2,16 +2,16 @@ ghost use Rattle.std.specs.Prelude.{◌≡◌, ◌<◌, ◌+◌, ◌*◌, ◌^�
 ghost use Rattle.block_tags.specs.Copies.{permits};
 ghost use Rattle.mini_asm.specs.declared.cpu.Next.TheVariants as next;
 ghost use Rattle.tw_base.specs.declared.entry.Event.TheVariants as event;
-ghost use Rattle.dsm_model.specs.declared.local.Mode.TheVariants as mode;
+ghost use Rattle.dsm_runs.specs.declared.mode.Mode.TheVariants as mode;
 ghost use Rattle.teapot_meaning.specs.declared.state.Here.{Here};
-ghost use Rattle.dsm_model.specs.Events.{IsRefused, tag_here};
+ghost use Rattle.dsm_runs.specs.Events.{IsRefused, tag_here};
 ghost use Rattle.dsm_model.specs.Kept.{IsSound};
-ghost use Rattle.dsm_model.specs.Locals.{MayInstruct, last_stamp};
+ghost use Rattle.dsm_runs.specs.Locals.{MayInstruct, last_stamp};
 ghost use Rattle.dsm_model.specs.Makes.{IsMade, done_entry, done_node};
-ghost use Rattle.dsm_model.specs.Setups.{asked, block_of, finished, offset_of, program_at, size_of};
+ghost use Rattle.dsm_runs.specs.Setups.{asked, block_of, finished, offset_of, program_at, size_of};
 ghost use Rattle.dsm_model.specs.Views.{local_of};
 
-use crate::handle::{Made, adopt, fault_of, handle};
+use crate::handle::{Made, adopt, defer, fault_of, handle};
 use crate::{Local, Mode, Setup};
 use mini_asm::{Cpu, Next, Program};
 use std::alloc::Global;
@@ -35,7 +35,7 @@ fn asked(setup: &Setup, me: NodeId, cpu: &Cpu) -> Next
 }
 
 /// The block of an address, and its place in the block.
-fn place(setup: &Setup, address: u32) -> (BlockId, u8)
+pub fn place(setup: &Setup, address: u32) -> (BlockId, u8)
     requires { address < size_of setup.now }
     ensures block { result.0 ≡ block_of setup.now address }
     ensures offset { result.1 ≡ offset_of setup.now address }
@@ -45,7 +45,7 @@ fn place(setup: &Setup, address: u32) -> (BlockId, u8)
     setup.shape().place_of(u64::from(address)).unwrap()
 }
 
-fn permits(tag: Tag, store: bool) -> bool
+pub fn permits(tag: Tag, store: bool) -> bool
     ensures { result ≡ permits tag store }
 {
     match tag {
@@ -63,7 +63,7 @@ pub fn block_at(l: &Local, block: BlockId) -> &Here
 }
 
 /// The word at a place, 0 past the last.
-fn word(words: Data, offset: u8) -> u64
+pub fn word(words: Data, offset: u8) -> u64
     ensures { result ≡ slice_index words offset }
 {
     if offset < words.len {
@@ -155,7 +155,8 @@ fn fault(
     let message = fault_of(store, block, me);
     let stamp = l.clock + 1;
     let here = block_at(l, block);
-    let handling = handle(alloc, setup, me, stamp, &message, here, l.deferred.items())?;
+    let handling = handle(alloc, setup, me, stamp, &message, here)?;
+    defer(&mut l.deferred, &handling.ended, &message)?;
     let shape = setup.shape();
     let _limits = (shape.budget(), shape.handler_budget());
     l.mode = Mode::Blocked(block);

@@ -1,8 +1,8 @@
-//! The model: nodes that run programs over blocks which a protocol keeps coherent, and wires between them.
+//! The model as a program: nodes and wires in memory, that start as `dsm_runs` says and make one event after another.
 //!
-//! The definitions say what one event does at one node (`LocalStep`), what an event of all nodes and wires is (`Step`),
-//! what a run is (`Runs`), and what a node's log says of the node (`Replays`). The laws in `laws.rt` tie them together:
-//! logs that replay, merged by stamp and node, are a run.
+//! `enabled` is exactly whether an event may happen. `step` makes an enabled event and gives its entry: the state that it
+//! leads to is the one that the definitions say (`Step`). `settle` makes the events of a serial schedule until none is
+//! enabled, and gives their entries (`Settles`). `outcome_of` says how a node ended. Want of memory is the only error.
 #![tactic(auto)]
 
 mod events;
@@ -10,27 +10,20 @@ mod first;
 mod global;
 mod handle;
 mod instruct;
-mod laws;
 mod local;
 mod make;
 mod outcome;
 mod queue;
 mod row;
 mod schedule;
-mod setup;
 mod stepping;
 mod take;
 mod wires;
 
+pub use dsm_runs::{Mode, Outcome, Setup, Waiting};
 pub use events::enabled;
 pub use global::Global;
-pub use laws::{
-    events_have_one_step, log_has_one_course, logs_are_sound, logs_go_on, logs_have_one_merge,
-    merged_logs_are_a_run, nodes_start_with_the_flat_words, quiet_nodes_end_a_run, run_has_one_end,
-    runs_are_short, runs_go_on, schedules_are_one_run, what_every_run_keeps, wires_are_sound,
-};
-pub use local::{Local, Mode, Waiting};
-pub use outcome::{Outcome, outcome_of};
+pub use local::Local;
+pub use outcome::outcome_of;
 pub use schedule::settle;
-pub use setup::Setup;
 pub use stepping::step;

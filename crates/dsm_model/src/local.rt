@@ -1,23 +1,7 @@
+use crate::{Mode, Waiting};
 use mini_asm::Cpu;
 use teapot_meaning::Here;
-use tw_base::{BlockId, End, Listed, Message, Trap};
-
-/// What a node's processor does: it goes on, waits for a block, may try its instruction again, or has ended.
-#[derive(Clone, Copy, Debug, PartialEq, Eq)]
-pub enum Mode {
-    Running,
-    Blocked(BlockId),
-    Woken,
-    Halted,
-    Trapped(Trap),
-}
-
-/// A deferred message. It is eligible where it may be handled again.
-#[derive(Clone, Copy, Debug, PartialEq, Eq)]
-pub struct Waiting {
-    pub message: Message,
-    pub eligible: bool,
-}
+use tw_base::{End, Listed};
 
 /// A node: what its processor does, how a handler failed there, its clock, its processor, its copy of each block, the
 /// messages that it deferred, and how many instructions it tried, messages it handled and messages it sent.

@@ -2,7 +2,7 @@ ghost use Rattle.std.specs.Prelude.{◌≡◌, ◌<◌, IfOk, length};
 ghost use Rattle.tw_base.specs.declared.entry.Event.TheVariants as event;
 ghost use Rattle.dsm_model.specs.Kept.{IsKept};
 ghost use Rattle.dsm_model.specs.Views.{state_of};
-ghost use Rattle.dsm_model.specs.Worlds.{IsEnabled, Step, event_of};
+ghost use Rattle.dsm_runs.specs.Worlds.{IsEnabled, Step, event_of};
 
 use crate::instruct::instruct;
 use crate::row::Row;

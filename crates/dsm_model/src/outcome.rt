@@ -1,25 +1,10 @@
 ghost use Rattle.std.specs.Prelude.{◌≡◌, ◌<◌};
 ghost use Rattle.dsm_model.specs.Globals.{setup_of, world_of};
-ghost use Rattle.dsm_model.specs.Outcomes.{is_spent, outcome_by, outcome_in, outcome_of};
+ghost use Rattle.dsm_runs.specs.Outcomes.{is_spent, outcome_by, outcome_in, outcome_of};
 ghost use Rattle.dsm_model.specs.Views.{local_of};
 
-use crate::{Global, Local, Mode, Setup};
-use tw_base::{End, NodeId, Trap};
-
-/// How a node ended.
-#[derive(Clone, Copy, Debug, PartialEq, Eq)]
-pub enum Outcome {
-    /// A handler met an error, by its number.
-    Failed(u32),
-    /// A handler suspended in a state that holds eight suspensions.
-    TooDeep,
-    Trapped(Trap),
-    /// It may try no more instructions, or handle or send no more messages.
-    Spent,
-    Halted,
-    /// It waits for a block.
-    Stuck,
-}
+use crate::{Global, Local, Mode, Outcome, Setup};
+use tw_base::{End, NodeId};
 
 fn is_spent(setup: &Setup, me: NodeId, l: &Local) -> bool
     ensures { result ≡ is_spent setup.now (local_of setup.now me l.now) }
@@ -43,9 +28,8 @@ fn outcome_by(failed: Option<End>, mode: Mode, spent: bool) -> Outcome
     ensures { result ≡ outcome_by failed mode spent }
 {
     match failed {
-        Some(End::Failed(error)) => Outcome::Failed(error),
-        Some(End::TooDeep) => Outcome::TooDeep,
-        _ => outcome_in(mode, spent),
+        Some(end) => Outcome::Failed(end),
+        None => outcome_in(mode, spent),
     }
 }
 

@@ -1,62 +1,85 @@
-ghost use Rattle.std.specs.Prelude.{◌≡◌, ◌∷◌, ◌++◌, ◌*◌, ◌%◌, ◌<◌, ℕ, List, Some, [], IfOk, OnOk, length};
+ghost use Rattle.std.specs.Prelude.{◌≡◌, ◌∷◌, ◌++◌, ◌<◌, true, false, [], IfOk, OnOk};
 ghost use Rattle.std.specs.List.{filter};
+ghost use Rattle.tw_base.specs.declared.entry.Event.TheVariants as event;
 ghost use Rattle.dsm_model.specs.Globals.{setup_of, world_of};
-ghost use Rattle.dsm_model.specs.Schedules.{Advances, Settles, all_events, chosen, deliveries, enabled_events, node_events};
-ghost use Rattle.dsm_model.specs.Tests.{is_enabled};
+ghost use Rattle.dsm_runs.specs.Schedules.{Advances, Settles, chosen, deliveries, enabled_events, node_events};
+ghost use Rattle.dsm_runs.specs.Tests.{has_eligible, is_enabled, may_handle};
 
-use crate::{Global, enabled, step};
+use crate::events::{has_eligible, is_early, may_handle, may_instruct};
+use crate::{Global, step};
 use std::alloc;
 use tw_base::{Chan, Entry, Event, Listed, Memory, NodeId};
 
-/// Puts the deliveries at a node behind the others.
-fn add_deliveries(events: &mut Listed<Event>, at: NodeId, nodes: u8) -> Result<(), Memory>
-    requires { nodes < 9 }
-    ensures { OnOk result (events.new ≡ events.old ++ deliveries at nodes) }
+/// Puts the delivery of a wire behind the others if it is enabled, at a node that may take a message.
+fn add_delivery(
+    g: &Global,
+    at: NodeId,
+    from: NodeId,
+    chan: Chan,
+    some: &mut Listed<Event>,
+) -> Result<(), Memory>
+    requires at { at < (setup_of g.now).shape.nodes }
+    requires from { from < (setup_of g.now).shape.nodes }
+    requires may { may_handle (setup_of g.now) ((world_of g.now).locals at) ≡ true }
+    requires none { has_eligible ((world_of g.now).locals at).deferred ≡ false }
+    ensures { OnOk result (some.new ≡ some.old ++ filter (is_enabled (setup_of g.now) (world_of g.now)) (event.Deliver at from chan ∷ [])) }
 {
-    for number in 0..nodes {
-        let from = NodeId::new(number).unwrap();
-        events.push(Event::Deliver {
-            at,
-            from,
-            chan: Chan::Zero,
-        })?;
-        events.push(Event::Deliver {
-            at,
-            from,
-            chan: Chan::One,
-        })?;
+    if is_early(g.message(from, at, chan, 0)) {
+        some.push(Event::Deliver { at, from, chan })?;
     }
     Ok(())
 }
 
-/// All events of a machine: by node, in a node the instruction, the redelivery, then deliveries by sender and channel.
-fn all_events(alloc: alloc::Global, nodes: u8) -> Result<Listed<Event>, Memory>
-    requires { nodes < 9 }
-    ensures { IfOk result (λ events. events ≡ all_events nodes) }
+/// Puts the deliveries that are enabled behind the others, at a node that may take a message.
+fn add_deliveries(g: &Global, at: NodeId, some: &mut Listed<Event>) -> Result<(), Memory>
+    requires at { at < (setup_of g.now).shape.nodes }
+    requires may { may_handle (setup_of g.now) ((world_of g.now).locals at) ≡ true }
+    requires none { has_eligible ((world_of g.now).locals at).deferred ≡ false }
+    ensures { OnOk result (some.new ≡ some.old ++ filter (is_enabled (setup_of g.now) (world_of g.now)) (deliveries at (setup_of g.now).shape.nodes)) }
 {
-    let mut events = Listed::new(alloc);
-    for number in 0..nodes {
-        let node = NodeId::new(number).unwrap();
-        events.push(Event::Instr(node))?;
-        events.push(Event::Redeliver(node))?;
-        add_deliveries(&mut events, node, nodes)?;
+    for number in 0..g.setup().shape().nodes() {
+        let from = NodeId::new(number).unwrap();
+        add_delivery(g, at, from, Chan::Zero, some)?;
+        add_delivery(g, at, from, Chan::One, some)?;
     }
-    Ok(events)
+    Ok(())
 }
 
-/// Those of the events that are enabled.
-fn enabled_among(
-    alloc: alloc::Global,
-    g: &Global,
-    events: &[Event],
-) -> Result<Listed<Event>, Memory>
-    ensures { IfOk result (λ some. some ≡ filter (is_enabled (setup_of g.now) (world_of g.now)) events.now) }
+/// Puts the redelivery and the deliveries of a node that are enabled behind the others. Where a redelivery is, no
+/// delivery is.
+fn add_handlers(g: &Global, node: NodeId, some: &mut Listed<Event>) -> Result<(), Memory>
+    requires { node < (setup_of g.now).shape.nodes }
+    ensures { OnOk result (some.new ≡ some.old ++ filter (is_enabled (setup_of g.now) (world_of g.now)) (event.Redeliver node ∷ deliveries node (setup_of g.now).shape.nodes)) }
+{
+    let l = g.local(node);
+    if !may_handle(g.setup(), node, l) {
+        return Ok(());
+    }
+    if has_eligible(l.deferred.items()) {
+        return some.push(Event::Redeliver(node));
+    }
+    add_deliveries(g, node, some)
+}
+
+/// Puts the events of a node that are enabled behind the others.
+fn add_enabled(g: &Global, node: NodeId, some: &mut Listed<Event>) -> Result<(), Memory>
+    requires { node < (setup_of g.now).shape.nodes }
+    ensures { OnOk result (some.new ≡ some.old ++ filter (is_enabled (setup_of g.now) (world_of g.now)) (node_events (setup_of g.now).shape.nodes node)) }
+{
+    if may_instruct(g.setup(), node, g.local(node)) {
+        some.push(Event::Instr(node))?;
+    }
+    add_handlers(g, node, some)
+}
+
+/// The events that are enabled: by node, in a node the instruction, the redelivery, then deliveries by sender and channel.
+fn enabled_events(alloc: alloc::Global, g: &Global) -> Result<Listed<Event>, Memory>
+    ensures { IfOk result (λ some. some ≡ enabled_events (setup_of g.now) (world_of g.now)) }
 {
     let mut some = Listed::new(alloc);
-    for e in events {
-        if enabled(g, *e) {
-            some.push(*e)?;
-        }
+    for number in 0..g.setup().shape().nodes() {
+        let node = NodeId::new(number).unwrap();
+        add_enabled(g, node, &mut some)?;
     }
     Ok(some)
 }
@@ -76,15 +99,13 @@ fn chosen(events: &[Event], turn: u32, stride: u32) -> Option<Event>
 fn advance(
     alloc: alloc::Global,
     g: &mut Global,
-    events: &[Event],
     turn: u32,
     stride: u32,
 ) -> Result<Option<Entry>, Memory>
-    requires { events.now ≡ all_events (setup_of g.old).shape.nodes }
     ensures setup { setup_of g.new ≡ setup_of g.old }
     ensures step { IfOk result (λ made. Advances (setup_of g.old) stride turn (world_of g.old) made (world_of g.new)) }
 {
-    let some = enabled_among(alloc, g, events)?;
+    let some = enabled_events(alloc, g)?;
     let Some(e) = chosen(some.items(), turn, stride) else {
         return Ok(None);
     };
@@ -106,10 +127,9 @@ pub fn settle(alloc: alloc::Global, g: &mut Global, stride: u32) -> Result<Liste
     ensures setup { setup_of g.new ≡ setup_of g.old }
     ensures settles { IfOk result (λ entries. Settles (setup_of g.old) stride 0 (world_of g.old) entries (world_of g.new)) }
 {
-    let events = all_events(alloc, g.setup().shape().nodes())?;
     let mut entries = Listed::new(alloc);
     for turn in 0..u32::MAX {
-        let Some(entry) = advance(alloc, g, events.items(), turn, stride)? else {
+        let Some(entry) = advance(alloc, g, turn, stride)? else {
             return Ok(entries);
         };
         let _parts = (entry.act, entry.after);

@@ -1,6 +1,6 @@
 ghost use Rattle.std.specs.Prelude.{◌≡◌, IfOk};
 ghost use Rattle.dsm_model.specs.Globals.{setup_of, world_of};
-ghost use Rattle.dsm_model.specs.Worlds.{IsEnabled, Step, event_of};
+ghost use Rattle.dsm_runs.specs.Worlds.{IsEnabled, Step, event_of};
 
 use crate::Global;
 use std::alloc;

@@ -1,35 +1,25 @@
-ghost use Rattle.std.specs.Prelude.{◌≡◌, ◌<◌, ◌+◌, ◌++◌, ◌^◌, Some, None, IfOk, OnErr, length, take, drop, slice_get};
+ghost use Rattle.std.specs.Prelude.{◌≡◌, ◌<◌, Some, None, IfOk, OnErr};
 ghost use Rattle.std.specs.List.{position};
 ghost use Rattle.tw_base.specs.Lists.{Each};
 ghost use Rattle.tw_base.specs.declared.entry.Act.TheVariants as act;
 ghost use Rattle.tw_base.specs.declared.entry.Event.TheVariants as event;
 ghost use Rattle.dsm_model.specs.Kept.{IsSound};
-ghost use Rattle.dsm_model.specs.Locals.{IsStale, MayHandle, last_stamp};
+ghost use Rattle.dsm_runs.specs.Locals.{IsStale, MayHandle, last_stamp};
 ghost use Rattle.dsm_model.specs.Makes.{IsMade};
 ghost use Rattle.dsm_model.specs.Views.{local_of};
-ghost use Rattle.dsm_model.specs.Worlds.{MayRedeliver};
+ghost use Rattle.dsm_runs.specs.Worlds.{MayRedeliver};
 
-use crate::handle::{Made, adopt, handle};
+use crate::handle::{Made, adopt, defer, handle};
 use crate::instruct::block_at;
 use crate::{Local, Setup, Waiting};
 use std::alloc::Global;
-use tw_base::{Act, Chan, Listed, Memory, Message, NodeId};
+use tw_base::{Act, Chan, Memory, Message, NodeId};
 
 /// The place of the first eligible message.
 fn first_eligible(deferred: &[Waiting]) -> Option<usize>
     ensures { result ≡ position (λ w. w.eligible) deferred.now }
 {
     deferred.iter().position(|waiting| waiting.eligible)
-}
-
-/// The messages but the one at a place.
-fn without(alloc: Global, deferred: &[Waiting], at: usize) -> Result<Listed<Waiting>, Memory>
-    requires { at < length deferred.now }
-    ensures { IfOk result (λ ws. ws ≡ take at deferred.now ++ drop (at + 1) deferred.now) }
-{
-    let mut ws = Listed::from_slice(alloc, &deferred[..at])?;
-    ws.append(Listed::from_slice(alloc, &deferred[at + 1..])?)?;
-    Ok(ws)
 }
 
 /// The node handles its first eligible message again. After an Err it is as before.
@@ -42,10 +32,11 @@ pub fn redeliver(alloc: Global, setup: &Setup, me: NodeId, l: &mut Local) -> Res
 {
     let at = first_eligible(l.deferred.items()).unwrap();
     let message = l.deferred.items()[at].message;
-    let others = without(alloc, l.deferred.items(), at)?;
     let stamp = l.clock + 1;
     let here = block_at(l, message.block);
-    let handling = handle(alloc, setup, me, stamp, &message, here, others.items())?;
+    let handling = handle(alloc, setup, me, stamp, &message, here)?;
+    defer(&mut l.deferred, &handling.ended, &message)?;
+    l.deferred.remove(at);
     let _limit = setup.shape().handler_budget();
     l.handled += 1;
     let act = Act::Redelivered {
@@ -79,7 +70,8 @@ pub fn deliver(
 {
     let stamp = l.clock.max(message.stamp) + 1;
     let here = block_at(l, message.block);
-    let handling = handle(alloc, setup, me, stamp, message, here, l.deferred.items())?;
+    let handling = handle(alloc, setup, me, stamp, message, here)?;
+    defer(&mut l.deferred, &handling.ended, message)?;
     let _limit = setup.shape().handler_budget();
     l.handled += 1;
     let act = Act::Delivered {

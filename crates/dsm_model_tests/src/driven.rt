@@ -9,6 +9,7 @@ use dsm_model::{Global, enabled, settle, step};
 use std::alloc;
 use std::process::Abort;
 use std::test::Fail;
+use teapot_samples::DEEP;
 use teapot_tree::Protocol;
 use tw_base::{Chan, Entry, Event, NodeId};
 
@@ -180,10 +181,11 @@ fn schedules_are_made(rt: HostRuntime) -> Result<(), Fail> {
         tables::ADDERS,
         tables::ADDERS_END,
     )?;
+    let deep = format!(in alloc; "{}protocol\n{DEEP}end\n", texts::TOO_DEEP)?;
     is_scheduled(
         &rt,
         alloc,
-        texts::TOO_DEEP,
+        deep.as_str(),
         tables::TOO_DEEP,
         tables::TOO_DEEP_END,
     )

@@ -5,8 +5,6 @@
 #[cfg(test)]
 mod driven;
 #[cfg(test)]
-mod endings;
-#[cfg(test)]
 mod reading;
 #[cfg(test)]
 mod shown;

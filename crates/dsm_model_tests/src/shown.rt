@@ -100,15 +100,22 @@ fn put_act(out: &mut String, p: &Protocol, act: Act) -> Result<(), Fail> {
     Ok(())
 }
 
+fn put_end(out: &mut String, end: End) -> Result<(), Fail> {
+    match end {
+        End::Fine => {}
+        End::Failed(number) => write!(out, "failed {number}")?,
+        End::TooDeep => write!(out, "failed TooDeep")?,
+    }
+    Ok(())
+}
+
 fn put_after(out: &mut String, p: &Protocol, sends: u16, after: After) -> Result<(), Fail> {
     let (state, tag) = (state_name(p, after.state), tag_name(after.tag));
     write!(out, " sends {sends} state {state} tag {tag}")?;
-    match after.end {
-        End::Fine => {}
-        End::Failed(number) => write!(out, " failed {number}")?,
-        End::TooDeep => write!(out, " failed TooDeep")?,
+    if !matches!(after.end, End::Fine) {
+        write!(out, " ")?;
     }
-    Ok(())
+    put_end(out, after.end)
 }
 
 /// An entry as its line in a journal, but for its number.
@@ -185,8 +192,7 @@ pub fn wire_line(
 
 fn put_outcome(out: &mut String, outcome: Outcome) -> Result<(), Fail> {
     match outcome {
-        Outcome::Failed(number) => write!(out, "failed {number}")?,
-        Outcome::TooDeep => write!(out, "failed TooDeep")?,
+        Outcome::Failed(end) => put_end(out, end)?,
         Outcome::Trapped(why) => write!(out, "trapped {}", trap_name(why))?,
         Outcome::Spent => write!(out, "spent")?,
         Outcome::Halted => write!(out, "halted")?,

@@ -1,5 +1,5 @@
 use Rattle.dsm_model.specs.Globals.{setup_of, world_of}
-use Rattle.dsm_model.proofs.Testing.{enabled_meaning}
+use Rattle.dsm_runs.proofs.Testing.{enabled_meaning}
 use Rattle.dsm_model.proofs.events.enabled.Goals as goal
 
 pub returns-clause-meaning : goal.returns-clause-meaning

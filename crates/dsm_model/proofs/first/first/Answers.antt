@@ -1,8 +1,8 @@
 use Rattle.std.proofs.Common.{◌≡◌, ℕ, List, None, ap, refl, ◌∙◌}
 use Rattle.std.specs.Prelude.{slice_get, unwrap_or}
 use Rattle.teapot_meaning.specs.declared.state.Here.{Here}
-use Rattle.dsm_model.specs.declared.local.Mode.TheVariants.{Running}
-use Rattle.dsm_model.specs.Setups.{first_here}
+use Rattle.dsm_runs.specs.declared.mode.Mode.TheVariants.{Running}
+use Rattle.dsm_runs.specs.Setups.{first_here}
 use Rattle.dsm_model.proofs.FirstSound.{first_sound}
 use Rattle.dsm_model.proofs.Starting.{listed_or}
 use Rattle.dsm_model.proofs.first.first.Goals as goal

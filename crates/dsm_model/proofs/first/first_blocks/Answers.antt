@@ -1,7 +1,7 @@
 use Rattle.std.proofs.Common.{◌++◌, ◌∷◌, [], List, ap, sym, ◌∙◌, arith}
 use Rattle.std.proofs.lemmas.List.FromFn.{map-range_with_len_more}
 use Rattle.teapot_meaning.specs.declared.state.Here.{Here}
-use Rattle.dsm_model.specs.Setups.{first_here}
+use Rattle.dsm_runs.specs.Setups.{first_here}
 use Rattle.dsm_model.proofs.first.first_blocks.Goals as goal
 
 pub loop-number-preserved : goal.loop-number-preserved

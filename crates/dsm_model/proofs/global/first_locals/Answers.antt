@@ -1,5 +1,5 @@
 use Rattle.std.proofs.Common.{◌≡◌, ◌∷◌, [], ap, length, length-append, refl, sym, subst, ◌∙◌, arith}
-use Rattle.dsm_model.specs.Locals.{first}
+use Rattle.dsm_runs.specs.Locals.{first}
 use Rattle.dsm_model.specs.Views.{local_of}
 use Rattle.dsm_model.proofs.Starting.{locals_push, none_sound, sound_push}
 use Rattle.dsm_model.proofs.global.first_locals.Goals as goal

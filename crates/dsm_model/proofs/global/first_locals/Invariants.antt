@@ -1,6 +1,6 @@
 use Rattle.std.proofs.Common.{◌≡◌, ℕ, length}
 use Rattle.dsm_model.specs.Kept.{AreSound}
-use Rattle.dsm_model.specs.Locals.{first}
+use Rattle.dsm_runs.specs.Locals.{first}
 use Rattle.dsm_model.specs.Views.{locals_of}
 use Rattle.dsm_model.proofs.global.first_locals.Given as goal
 

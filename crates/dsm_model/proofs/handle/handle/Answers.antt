@@ -1,13 +1,11 @@
 use Rattle.std.proofs.Common.{List, map, sym, ◌∙◌, ap, subst, arith}
-use Rattle.std.specs.Prelude.{◌++◌, IsSome}
+use Rattle.std.specs.Prelude.{IsSome}
 use Rattle.teapot_meaning.specs.Does.{Does, state_of}
 use Rattle.teapot_meaning.specs.declared.state.Ended.{Ended}
 use Rattle.teapot_meaning.specs.declared.state.Out.{Out}
 use Rattle.teapot_tree.specs.declared.protocol.Protocol.{Protocol}
-use Rattle.dsm_model.specs.declared.local.Waiting.{Waiting}
-use Rattle.dsm_model.specs.Events.{freed_if}
-use Rattle.dsm_model.specs.Messages.{message_of}
-use Rattle.dsm_model.proofs.Handlings.{kept_behind, outgoing-map}
+use Rattle.dsm_runs.specs.Messages.{message_of}
+use Rattle.dsm_model.proofs.Handlings.{outgoing-map}
 use Rattle.dsm_model.proofs.States.{below_state, does_below}
 use Rattle.dsm_model.proofs.handle.handle.Goals as goal
 
@@ -26,10 +24,6 @@ returns c =
           ∙ ap (λ (os : List Out). map (message_of c.protocol-protocol.result.now c.args.me m.block c.args.stamp) os) c.items-outs.ensures
           ∙ ap (λ (q : Protocol). map (message_of q c.args.me m.block c.args.stamp) e.sends) c.protocol-protocol.ensures.value
           ∙ outgoing-map p c.args.me m.block c.args.stamp e.sends;
-      deferred = c.in_ok-append.ensures
-          ∙ ap (λ (ws : List Waiting). ws ++ c.in_ok-more.more) c.in_ok-deferred.ensures
-          ∙ ap (λ (ws : List Waiting). freed_if e.freed m.block c.args.deferred.now ++ ws) c.in_ok-more.ensures
-          ∙ kept_behind e.kept m (freed_if e.freed m.block c.args.deferred.now);
       served = does_below p c.args.here.now m e does c.requires;
       few = omega (arith, c.if-len-from.false, c.len.ensures, c.from.ensures);
     }

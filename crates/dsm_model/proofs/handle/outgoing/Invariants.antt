@@ -1,5 +1,5 @@
 use Rattle.std.proofs.Common.{◌≡◌, map, take}
-use Rattle.dsm_model.specs.Messages.{message_of}
+use Rattle.dsm_runs.specs.Messages.{message_of}
 use Rattle.dsm_model.proofs.handle.outgoing.Given as goal
 
 abbrev pub invariant-loop-out : goal.invariant-loop-out

@@ -6,9 +6,9 @@ use Rattle.tw_base.specs.declared.entry.Act.TheVariants as act
 use Rattle.mini_asm.specs.Machine.{wrap}
 use Rattle.dsm_model.specs.declared.handle.Made.{Made}
 use Rattle.dsm_model.specs.declared.local.Local.{Local as Node}
-use Rattle.dsm_model.specs.declared.local.Mode.TheVariants as mode
+use Rattle.dsm_runs.specs.declared.mode.Mode.TheVariants as mode
 use Rattle.dsm_model.specs.Makes.{done_entry, done_node}
-use Rattle.dsm_model.specs.Setups.{finished}
+use Rattle.dsm_runs.specs.Setups.{finished}
 use Rattle.dsm_model.proofs.Completing.{faa_made, one_here}
 use Rattle.dsm_model.proofs.Handlings.{made_same}
 use Rattle.dsm_model.proofs.instruct.fetch_and_add.Goals as goal

@@ -4,9 +4,9 @@ use Rattle.teapot_meaning.specs.declared.state.Here.{Here}
 use Rattle.tw_base.specs.declared.entry.Act.TheVariants as act
 use Rattle.dsm_model.specs.declared.handle.Made.{Made}
 use Rattle.dsm_model.specs.declared.local.Local.{Local as Node}
-use Rattle.dsm_model.specs.declared.local.Mode.TheVariants as mode
+use Rattle.dsm_runs.specs.declared.mode.Mode.TheVariants as mode
 use Rattle.dsm_model.specs.Makes.{done_entry, done_node}
-use Rattle.dsm_model.specs.Setups.{finished}
+use Rattle.dsm_runs.specs.Setups.{finished}
 use Rattle.dsm_model.proofs.Completing.{one_here, store_made}
 use Rattle.dsm_model.proofs.Handlings.{made_same}
 use Rattle.dsm_model.proofs.instruct.store.Goals as goal

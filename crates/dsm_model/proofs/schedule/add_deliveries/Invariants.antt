@@ -1,6 +1,9 @@
 use Rattle.std.proofs.Common.{◌≡◌, ◌++◌}
-use Rattle.dsm_model.specs.Schedules.{deliveries}
+use Rattle.std.specs.List.{filter}
+use Rattle.dsm_runs.specs.Schedules.{deliveries}
+use Rattle.dsm_runs.specs.Tests.{is_enabled}
+use Rattle.dsm_model.specs.Globals.{setup_of, world_of}
 use Rattle.dsm_model.proofs.schedule.add_deliveries.Given as goal
 
 abbrev pub invariant-loop-number : goal.invariant-loop-number
-invariant-loop-number l = l.events ≡ l.initial.events ++ deliveries l.at l.number
+invariant-loop-number l = l.some ≡ l.initial.some ++ filter (is_enabled (setup_of l.g) (world_of l.g)) (deliveries l.at l.number)

@@ -1,7 +1,7 @@
 use Rattle.std.proofs.Common.{◌≡◌, ◌∷◌, [], List, None, length, length-append, rules, refl, ap, sym, ◌∙◌, subst, arith}
 use Rattle.tw_base.specs.declared.entry.Entry.{Entry}
 use Rattle.dsm_model.specs.Globals.{setup_of, world_of}
-use Rattle.dsm_model.proofs.Scheduling.{Begins, begins_at, begins_none, settles_at}
+use Rattle.dsm_runs.proofs.Scheduling.{Begins, begins_at, begins_none, settles_at}
 use Rattle.dsm_model.proofs.schedule.settle.Goals as goal
 
 pub loop-turn-init : goal.loop-turn-init

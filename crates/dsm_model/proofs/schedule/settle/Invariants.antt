@@ -1,6 +1,6 @@
 use Rattle.std.proofs.Common.{◌≡◌, length}
 use Rattle.dsm_model.specs.Globals.{setup_of, world_of}
-use Rattle.dsm_model.proofs.Scheduling.{Begins}
+use Rattle.dsm_runs.proofs.Scheduling.{Begins}
 use Rattle.dsm_model.proofs.schedule.settle.Given as goal
 
 abbrev pub invariant-loop-turn : goal.invariant-loop-turn

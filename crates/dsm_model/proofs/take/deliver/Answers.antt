@@ -1,6 +1,6 @@
-use Rattle.std.proofs.Common.{◌+◌, ap, arith, refl}
+use Rattle.std.proofs.Common.{◌+◌, ap, arith}
 use Rattle.dsm_model.specs.Kept.{is_served}
-use Rattle.dsm_model.proofs.Handlings.{all-get, delivery_made, handling_of, made_same}
+use Rattle.dsm_model.proofs.Handlings.{all-get, delivery_made, made_same}
 use Rattle.dsm_model.proofs.take.deliver.Goals as goal
 
 pub handle-requires : goal.handle-requires
@@ -13,7 +13,6 @@ returns-clause-made c =
     let m = c.args.message.now in
     let stamp = c.max-stamp.result + 1 in
     let h = c.in_ok-handling.handling in
-    let is = handling_of s c.args.me stamp m m c.block_at-here.result.now c.items.result.now l.deferred h refl c.items.ensures c.in_ok-handling.ensures in
     made_same s c.args.me _ l _ _ c.adopt.new.l _ c.adopt.result c.adopt.ensures.node c.adopt.ensures.made
-    (delivery_made s c.args.me l m c.args.from c.args.chan stamp c.block_at-here.result.now h c.requires.me c.requires.from c.requires.may c.requires.sound c.requires.stale c.requires.early c.requires.block c.block_at-here.ensures
-    (ap (λ n. n + 1) c.max-stamp.ensures) is (omega (arith, c.requires.may.sent, c.shape.ensures.valid.limits.budget, is.few)))
+    (delivery_made s c.args.me l m c.args.from c.args.chan stamp c.block_at-here.result.now h c.defer.new.deferred c.requires.me c.requires.from c.requires.may c.requires.sound c.requires.stale c.requires.early c.requires.block c.block_at-here.ensures
+    (ap (λ n. n + 1) c.max-stamp.ensures) c.in_ok-handling.ensures c.in_ok-defer.ensures.ok (omega (arith, c.requires.may.sent, c.shape.ensures.valid.limits.budget, c.in_ok-handling.ensures.few)))

@@ -1,5 +1,0 @@
-use Rattle.dsm_model.proofs.WordsAtStart.{first_word}
-use Rattle.dsm_model.proofs.laws.nodes_start_with_the_flat_words.Goals as goal
-
-pub returns : goal.returns
-returns c = first_word

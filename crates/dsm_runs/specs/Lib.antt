@@ -1,0 +1,13 @@
+pub mod Args
+pub mod Setups
+pub mod Locals
+pub mod Messages
+pub mod Events
+pub mod Worlds
+pub mod Replays
+pub mod Merges
+pub mod Laws
+pub mod Tests
+pub mod Invariants
+pub mod Outcomes
+pub mod Schedules
