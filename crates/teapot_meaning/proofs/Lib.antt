@@ -1,15 +1,15 @@
 mod BareErrors
 mod Bounds
 pub mod Ends
-mod Found
+pub mod Found
 mod Handling
 mod JoinedErrors
 mod Lines
 pub mod Meanings
-mod Members
-mod Rests
+pub mod Members
+pub mod Rests
 mod Served
-mod Sound
+pub mod Sound
 pub mod Starting
 mod Staying
 mod Typed

@@ -38,7 +38,7 @@ use Rattle.teapot_meaning.proofs.Visible.{map_both}
 
 -- ---- names bound to values
 
-bound_named : (ns : List Name) (xs : List Value) → length ns ≡ length xs → map (λ b. b.name) (bound ns xs) ≡ ns
+pub bound_named : (ns : List Name) (xs : List Value) → length ns ≡ length xs → map (λ b. b.name) (bound ns xs) ≡ ns
 bound_named [] xs e = refl
 bound_named (n ∷ ns) [] e = absurd (omega arith)
 bound_named (n ∷ ns) (x ∷ xs) e = ap (λ ms. n ∷ ms) (bound_named ns xs (omega arith))
@@ -55,7 +55,7 @@ zero_typed ty.Bool = refl
 zero_typed ty.Node = refl
 zero_typed ty.Set = refl
 
-locals_named : (ps : List Param) → map (λ b. b.name) (map local_of ps) ≡ map (λ a. a.name) ps
+pub locals_named : (ps : List Param) → map (λ b. b.name) (map local_of ps) ≡ map (λ a. a.name) ps
 locals_named [] = refl
 locals_named (a ∷ ps) = ap (λ ns. a.name ∷ ns) (locals_named ps)
 
@@ -91,7 +91,7 @@ vars_typed p s h here m count state takes infos =
 
 -- ---- the handler
 
-taker : (p : Protocol) (k : Kind) (s : State) (h : Handler) → handler_in p k s ≡ Some h → Contains s.handlers h × ((answers p k h.on ≡ true) ⊎ (is_default h.on ≡ true))
+pub taker : (p : Protocol) (k : Kind) (s : State) (h : Handler) → handler_in p k s ≡ Some h → Contains s.handlers h × ((answers p k h.on ≡ true) ⊎ (is_default h.on ≡ true))
 unfolding handler_in
 taker p k s h e = by_own (find (λ x. answers p k x.on) s.handlers) refl e
   where
@@ -171,7 +171,7 @@ takes_else p WrFault ns count args payload e f = cc
 takes_else p (Named name) ns count args payload e f = cc
 takes_else p Default ns count args payload e f = takes_none p Default ns count args payload refl f
 
-takes : (p : Protocol) (a : IsAccepted p) (k : Kind) (s : State) (h : Handler) (count : ℕ) (args : List Value) (payload : Option Data) → Contains p.states s → Contains s.handlers h → (answers p k h.on ≡ true) ⊎ (is_default h.on ≡ true) → IsOf p count k args payload → Takes p h.on h.args count args payload
+pub takes : (p : Protocol) (a : IsAccepted p) (k : Kind) (s : State) (h : Handler) (count : ℕ) (args : List Value) (payload : Option Data) → Contains p.states s → Contains s.handlers h → (answers p k h.on ≡ true) ⊎ (is_default h.on ≡ true) → IsOf p count k args payload → Takes p h.on h.args count args payload
 takes p a k s h count args payload i j (inl e) is = takes_by p k h.on h.args count args payload e (counts p s h a i j) is
 takes p a k s h count args payload i j (inr e) is = takes_else p h.on h.args count args payload e (each_at NoDefaultArgs s.handlers h j (each_flat NoDefaultArgs (λ (d : State). d.handlers) p.states s i a.tree.default_args))
 

@@ -1,0 +1,17 @@
+mod Accepted
+mod Agree
+mod Args
+mod Chains
+mod Doors
+mod Entering
+mod Exprs
+mod Fine
+mod Handlers
+mod Numbered
+mod OneCode
+mod Placed
+mod Places
+mod Rests
+mod Steps
+mod Values
+mod Vars
