@@ -1,0 +1,3 @@
+pub mod ChainLemmas
+mod PackingLemmas
+mod RoomLemmas

@@ -1,0 +1,5 @@
+pub mod Packed
+pub mod Packing
+pub mod Parts
+pub mod Rooms
+pub mod Store
