@@ -1,0 +1,9 @@
+mod Beside
+mod Breaking
+mod Enumerating
+mod Lines
+mod Prints
+mod Repeating
+mod Seeking
+mod Telling
+mod Writing

@@ -1,0 +1,15 @@
+use Rattle.std.proofs.Common.{ℕ, ◌++◌, ◌∷◌, [], List, ap, sym, ◌∙◌, arith}
+use Rattle.std.proofs.lemmas.List.FromFn.{map-range_with_len_more}
+use Rattle.dsm_model.specs.Globals.{setup_of, world_of}
+use Rattle.journal.specs.Gathered.{told_word}
+use Rattle.journal.proofs.gathered.words_of.Goals as goal
+
+pub loop-address-preserved : goal.loop-address-preserved
+loop-address-preserved c =
+    let g = c.args.g.now in
+    let f = told_word (setup_of g) (world_of g) in
+    let n = c.loop-address.address in
+    c.in_ok-push.ensures.ok
+    ∙ ap (λ (x : ℕ). c.loop-address.words ++ x ∷ []) c.told_word.ensures
+    ∙ ap (λ (xs : List ℕ). xs ++ f n ∷ []) c.loop-address.invariant
+    ∙ sym (map-range_with_len_more f 0 n n (omega arith))

@@ -1,0 +1,6 @@
+pub mod Finals
+pub mod Gathered
+pub mod History
+pub mod Laws
+pub mod Reports
+pub mod Spaced

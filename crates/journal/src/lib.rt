@@ -1,0 +1,22 @@
+//! What is told of a run: how its nodes ended, the words of its memory, whether one flat memory explains its journal, and the
+//! text of its report.
+//!
+//! The journal of a run is told beside the flat machine, which has processors and words and nothing else: either it does
+//! what every completed entry says (`Agrees`), or the first read that differs is named (`IsBroken`).
+#![tactic(auto)]
+
+mod events;
+mod finals;
+mod gathered;
+mod history;
+mod laws;
+mod names;
+mod nodes;
+mod reports;
+mod text;
+
+pub use finals::{Final, finals_of};
+pub use gathered::words_of;
+pub use history::{Break, first_break};
+pub use laws::{history_is_told, report_has_the_prints};
+pub use reports::{Options, report};
