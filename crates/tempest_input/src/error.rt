@@ -48,8 +48,6 @@ pub enum Why {
     TooManySends,
     /// A protocol that has not one start of each kind.
     NotTwoStarts,
-    /// A text that is allowed and not served yet.
-    NotYet,
 }
 
 /// A text is refused at a line, from 1 on; or there is not enough memory.

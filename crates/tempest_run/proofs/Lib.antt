@@ -1,6 +1,4 @@
 mod Accepting
-mod Determined
-mod Enumerating
-mod Running
+mod Answered
 mod Sections
-mod Splitting
+mod Telling

@@ -1,105 +1,71 @@
 -- What is answered to a text.
-use Rattle.std.specs.Prelude.{ℕ, ◌==◌, if◌then◌else◌, codes, length, slice_get, List, [], ◌∷◌, Option, Some, None, Result, Ok, Err}
+use Rattle.std.specs.Prelude.{◌≡◌, ℕ, if◌then◌else◌, codes, length, Bool, true, false, List, [], ◌∷◌, Result, Ok, Err}
+use Rattle.std.specs.List.{list_all}
 use Rattle.std.specs.Fmt.{decimal}
-use Rattle.tw_base.specs.Answers.{◌>>=◌}
-use Rattle.mini_asm.specs.declared.processor.Core.{Core}
-use Rattle.mini_asm.specs.declared.processor.FlatMode.{FlatMode}
-use Rattle.mini_asm.specs.declared.processor.FlatMode.TheVariants.{Running, Halted, Trapped}
-use Rattle.mini_asm.specs.Run.{start_of}
+use Rattle.tw_base.specs.declared.entry.Entry.{Entry}
 use Rattle.tempest_input.specs.declared.error.InputError.{InputError}
 use Rattle.tempest_input.specs.declared.error.InputError.TheVariants as errors
 use Rattle.tempest_input.specs.declared.error.Why.{Why}
 use Rattle.tempest_input.specs.declared.error.Why.TheVariants as why
-use Rattle.tempest_input.specs.declared.layout.Choice.{Choice}
-use Rattle.tempest_input.specs.declared.layout.Choice.TheVariants as choices
-use Rattle.tempest_input.specs.Settings.{Settings}
+use Rattle.tempest_words.specs.declared.request.Asked.{Asked}
+use Rattle.tempest_words.specs.declared.request.Command.{Command}
+use Rattle.tempest_words.specs.declared.request.Command.TheVariants as commands
 use Rattle.teapot_tree.specs.declared.protocol.Protocol.{Protocol}
 use Rattle.teapot_tree.specs.Parts.{handlers_of}
 use Rattle.teapot_print.specs.Text.{canon}
-use Rattle.stache_protocol.specs.Shipped.{shipped}
-use Rattle.tempest_run.specs.declared.input.Input.{Input}
-use Rattle.tempest_run.specs.declared.report.Final.{Final}
-use Rattle.tempest_run.specs.declared.report.Outcome.{Outcome}
-use Rattle.tempest_run.specs.declared.report.Outcome.TheVariants as outcomes
+use Rattle.dsm_runs.specs.declared.outcome.Outcome.{Outcome}
+use Rattle.dsm_runs.specs.declared.outcome.Outcome.TheVariants as outcomes
+use Rattle.dsm_runs.specs.Schedules.{Settles}
+use Rattle.dsm_runs.specs.Setups.{Setup}
+use Rattle.dsm_runs.specs.Worlds.{IsQuiet, Runs, World, start}
+use Rattle.journal.specs.declared.finals.Final.{Final}
+use Rattle.journal.specs.declared.reports.Options.{Options}
+use Rattle.journal.specs.Finals.{finals_of}
+use Rattle.journal.specs.Gathered.{words_of}
+use Rattle.journal.specs.History.{first_break}
+use Rattle.journal.specs.Laws.{History}
+use Rattle.journal.specs.Reports.{line, report_of}
 use Rattle.tempest_run.specs.declared.status.Status.{Status}
 use Rattle.tempest_run.specs.declared.status.Status.TheVariants as statuses
-use Rattle.tempest_run.specs.declared.words.Command.{Command}
-use Rattle.tempest_run.specs.declared.words.Command.TheVariants as commands
 use Rattle.tempest_run.specs.Inputs.{input_of}
-use Rattle.tempest_run.specs.Reports.{line, report_of}
-use Rattle.tempest_run.specs.Runs.{Run, run_from}
-
--- ---- what is served
-
-abbrev pub not_yet : {X : Type 0} → ℕ → Result X InputError
-not_yet line = Err (errors.Refused line why.NotYet)
-
-abbrev pub no_protocol : Choice → Result (Unit {0}) InputError
-no_protocol choices.Default = Ok tt
-no_protocol (choices.Own line body) = not_yet line
-no_protocol (choices.Shipped line which) = not_yet line
-
--- one node, and no line that chooses a protocol
-abbrev pub served : Input → Result (Unit {0}) InputError
-served i = if i.setup.shape.nodes == 1 then no_protocol i.setup.protocol else not_yet i.nodes
-
--- what a text sets up, where it is served; it is refused as not served only where it is valid
-unfoldable pub served_input : List ℕ → Result Settings InputError
-served_input text = input_of text >>= λ i. served i >>= λ yes. Ok i.setup
-
-abbrev pub or_memory : Option Protocol → Result Protocol InputError
-or_memory (Some p) = Ok p
-or_memory None = Err errors.Memory
-
-abbrev pub or_stache : Option Protocol → Result Protocol InputError
-or_stache (Some p) = Ok p
-or_stache None = or_memory shipped
-
--- its own protocol, or else Stache
-abbrev pub protocol_of : Input → Result Protocol InputError
-protocol_of i = or_stache i.own
-
--- the protocol of a text
-unfoldable pub protocol_input : List ℕ → Result Protocol InputError
-protocol_input text = input_of text >>= λ i. protocol_of i
-
--- ---- the run
-
--- the run of node 0, until it has halted, trapped or made as many instructions as its budget
-abbrev pub the_run : Settings → Run
-the_run s = run_from 0 s.shape.budget 0 (start_of s.shape s.init s.programs)
-
-abbrev pub outcome_of : FlatMode → Outcome
-outcome_of Halted = outcomes.Halted
-outcome_of (Trapped because) = outcomes.Trapped because
-outcome_of Running = outcomes.Spent
-
-abbrev pub final_of : ℕ → Core → Final
-final_of count core = record { outcome = outcome_of core.mode; cpu = core.cpu; instructions = count; handled = 0 }
-
-abbrev pub finals_of : ℕ → Option Core → List Final
-finals_of count None = []
-finals_of count (Some core) = final_of count core ∷ []
-
--- how the nodes end
-abbrev pub finals : Run → List Final
-finals run = finals_of (length run.journal) (slice_get run.machine.cores 0)
-
-abbrev pub and_status : Outcome → Status → Status
-and_status outcomes.Halted rest = rest
-and_status outcomes.Spent rest = statuses.Unfinished
-and_status (outcomes.Trapped because) rest = statuses.Unfinished
-
--- done where every node has halted
-abbrev pub status_of : List Final → Status
-status_of [] = statuses.Done
-status_of (f ∷ fs) = and_status f.outcome (status_of fs)
-
--- ---- the answer
 
 pub record Answer : Type 0 where
   pub status : Status
   pub text : List ℕ
+
+-- ---- runs
+
+-- The run of the schedule of this stride. It is a run of the model, and ends in a state where no event is enabled; and what is
+-- told of its history is so: one flat memory explains it, or the break is the first.
+pub record IsSerialRun (s : Setup) (stride : ℕ) (j : List Entry) (g : World) : Type 0 where
+  pub schedule : Settles s stride 0 (start s) j g
+  pub run : Runs s (start s) j g
+  pub quiet : IsQuiet s g
+  pub history : History s j g (first_break s j)
+
+abbrev pub has_halted : Outcome → Bool
+has_halted outcomes.Halted = true
+has_halted outcomes.Spent = false
+has_halted outcomes.Stuck = false
+has_halted (outcomes.Trapped why) = false
+has_halted (outcomes.Failed how) = false
+
+-- done where every node has halted
+abbrev pub status_of : List Final → Status
+status_of finals = if list_all (λ f. has_halted f.outcome) finals then statuses.Done else statuses.Unfinished
+
+-- the report of a run that ends in g
+abbrev pub report_answer : Setup → List Entry → World → Options → Answer
+report_answer s j g o = record { status = status_of (finals_of s g); text = report_of s j (finals_of s g) (words_of s g) (first_break s j) o }
+
+-- the answer tells of the serial run of this stride
+pub record TellsOfRun (s : Setup) (stride : ℕ) (o : Options) (a : Answer) : Type 0 where
+  pub journal : List Entry
+  pub state : World
+  pub run : IsSerialRun s stride journal state
+  pub tells : a ≡ report_answer s journal state o
+
+-- ---- refusals, and answers about a protocol
 
 abbrev pub why_text : Why → List ℕ
 why_text why.NotAscii = codes "NotAscii"
@@ -124,16 +90,9 @@ why_text why.AfterSuspend = codes "AfterSuspend"
 why_text why.NoData = codes "NoData"
 why_text why.TooManySends = codes "TooManySends"
 why_text why.NotTwoStarts = codes "NotTwoStarts"
-why_text why.NotYet = codes "NotYet"
 
 abbrev pub refusal : ℕ → Why → Answer
 refusal number reason = record { status = statuses.Refused; text = line (codes "refused line" ∷ decimal number ∷ why_text reason ∷ []) }
-
--- the report of the run of a setup
-unfoldable pub report_answer : Settings → Answer
-report_answer s =
-    let run = the_run s in
-    record { status = status_of (finals run); text = report_of s.version s.shape run.journal (finals run) run.machine.words }
 
 -- what an accepted protocol has
 abbrev pub check_answer : Protocol → Answer
@@ -147,16 +106,27 @@ check_answer p = record {
 abbrev pub show_answer : Protocol → Answer
 show_answer p = record { status = statuses.Done; text = canon p }
 
--- the answer that is made of what a text gives, or its refusal
-abbrev pub answer_with : {X : Type 0} → (X → Answer) → Result X InputError → Answer
-answer_with make (Ok x) = make x
-answer_with make (Err (errors.Refused number reason)) = refusal number reason
-answer_with make (Err errors.Memory) = record { status = statuses.Memory; text = [] }
+-- ---- the answer
 
-abbrev pub answer_of : Command → List ℕ → Answer
-answer_of (commands.Serial stride) text = answer_with report_answer (served_input text)
-answer_of commands.Check text = answer_with check_answer (protocol_input text)
-answer_of commands.Show text = answer_with show_answer (protocol_input text)
+-- a report has its journal where it is asked for, and no counts
+abbrev pub options_of : Asked → Options
+options_of asked = record { journal = asked.journal; counts = false }
+
+-- the answer to a command about what a text sets up
+abbrev pub Answers : Command → Options → Setup → Answer → Type 0
+Answers (commands.Serial stride) o s a = TellsOfRun s stride o a
+Answers commands.Check o s a = a ≡ check_answer s.protocol
+Answers commands.Show o s a = a ≡ show_answer s.protocol
+
+-- the answer about what a text sets up, or its refusal
+abbrev pub AnswersIn : Command → Options → Result Setup InputError → Answer → Type 0
+AnswersIn command o (Ok s) a = Answers command o s a
+AnswersIn command o (Err (errors.Refused number reason)) a = a ≡ refusal number reason
+AnswersIn command o (Err errors.Memory) a = ⊥
+
+-- The answer to a text. A run on the model is the same run.
+abbrev pub IsAnswer : Asked → List ℕ → Answer → Type 0
+IsAnswer asked text a = AnswersIn asked.command (options_of asked) (input_of text) a
 
 -- the statuses with which a text is answered
 abbrev pub IsAnswered : Status → Type 0

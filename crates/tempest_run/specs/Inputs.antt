@@ -1,4 +1,4 @@
--- What a text gives: what it sets up, and the protocol that it brings along.
+-- What a text sets up: a machine with its programs, and the protocol that it runs under.
 use Rattle.std.specs.Prelude.{ℕ, List, Option, Some, None, Result, Ok, Err}
 use Rattle.tw_base.specs.Answers.{◌>>=◌}
 use Rattle.tw_lex.specs.Lines.{lexed}
@@ -11,6 +11,8 @@ use Rattle.teapot_tree.specs.declared.rule.Rule.{Rule}
 use Rattle.teapot_tree.specs.declared.rule.Rule.TheVariants as rules
 use Rattle.teapot_rules.specs.declared.fault.Fault.{Fault}
 use Rattle.teapot_rules.specs.Firsts.{all_rules, first_of_rules}
+use Rattle.stache_protocol.specs.Shipped.{shipped}
+use Rattle.dsm_runs.specs.Setups.{Setup}
 use Rattle.tempest_input.specs.declared.error.InputError.{InputError}
 use Rattle.tempest_input.specs.declared.error.InputError.TheVariants as errors
 use Rattle.tempest_input.specs.declared.error.Why.{Why}
@@ -19,8 +21,7 @@ use Rattle.tempest_input.specs.declared.layout.Body.{Body}
 use Rattle.tempest_input.specs.declared.layout.Choice.{Choice}
 use Rattle.tempest_input.specs.declared.layout.Choice.TheVariants as choices
 use Rattle.tempest_input.specs.Layout.{laid_out}
-use Rattle.tempest_input.specs.Settings.{in_line, settings_of}
-use Rattle.tempest_run.specs.declared.input.Input.{Input}
+use Rattle.tempest_input.specs.Settings.{Settings, in_line, settings_of}
 
 -- a protocol, or what its lines are refused for
 abbrev pub in_protocol : Result Protocol ParseError → Result Protocol InputError
@@ -56,11 +57,15 @@ accepted p = unless_broken (first_of_rules p all_rules) p
 unfoldable pub section_protocol : Body → Result Protocol InputError
 section_protocol body = in_protocol (parsed body.lines body.end) >>= λ p. accepted p
 
--- the protocol of the text's section, if it has one
-abbrev pub own_protocol : Choice → Result (Option Protocol) InputError
-own_protocol choices.Default = Ok None
-own_protocol (choices.Own line body) = section_protocol body >>= λ p. Ok (Some p)
-own_protocol (choices.Shipped line which) = Ok None
+abbrev pub or_memory : Option Protocol → Result Protocol InputError
+or_memory (Some p) = Ok p
+or_memory None = Err errors.Memory
+
+-- the protocol of the text's section, else Stache
+unfoldable pub protocol_of : Choice → Result Protocol InputError
+protocol_of choices.Default = or_memory shipped
+protocol_of (choices.Own line body) = section_protocol body
+protocol_of (choices.Shipped line which) = or_memory shipped
 
 -- the lines of the section, if there is one, are as they stand in a text
 abbrev pub IsOfText : Choice → Type 0
@@ -68,12 +73,15 @@ IsOfText choices.Default = Unit {0}
 IsOfText (choices.Own line body) = AreTextLines body.lines
 IsOfText (choices.Shipped line which) = Unit {0}
 
--- What a text gives, or its first fault: first of its tokens, then of its layout, of its numbers, of its programs, and of
+-- settings under a protocol
+abbrev pub under : Settings → Protocol → Setup
+under s p = record { version = s.version; shape = s.shape; init = s.init; programs = s.programs; protocol = p }
+
+-- What a text sets up, or its first fault: first of its tokens, then of its layout, of its numbers, of its programs, and of
 -- its protocol.
-unfoldable pub input_of : List ℕ → Result Input InputError
+unfoldable pub input_of : List ℕ → Result Setup InputError
 input_of text =
     in_line (lexed text) >>= λ found.
     laid_out found.all found.list >>= λ layout.
-    settings_of layout >>= λ setup.
-    own_protocol setup.protocol >>= λ own.
-    Ok (record { nodes = layout.nodes.line; setup = setup; own = own })
+    settings_of layout >>= λ settings.
+    protocol_of settings.protocol >>= λ p. Ok (under settings p)

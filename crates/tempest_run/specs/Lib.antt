@@ -1,7 +1,4 @@
 pub mod Answering
 pub mod Inputs
 pub mod Laws
-pub mod Reports
-pub mod Runs
 pub mod Statuses
-pub mod Words

@@ -1,27 +1,21 @@
-ghost use Rattle.std.specs.Prelude.{◌≡◌, ◌+◌, ◌^◌, ◌<◌, length};
+ghost use Rattle.std.specs.Prelude.{◌≡◌, ◌+◌, ◌^◌, ◌<◌, length, IfOk};
 ghost use Rattle.tw_base.specs.Answers.{Gives};
 ghost use Rattle.teapot_tree.specs.Grammar.{IsTree};
 ghost use Rattle.teapot_parse.specs.Given.{AreTextLines};
 ghost use Rattle.tempest_input.specs.Layout.{is_memory};
-ghost use Rattle.tempest_run.specs.Inputs.{IsOfText, accepted, broken_rule, input_of, own_protocol, section_protocol};
+ghost use Rattle.tempest_run.specs.Inputs.{IsOfText, accepted, broken_rule, input_of, protocol_of, section_protocol, under};
 
+use dsm_runs::Setup;
+use mini_asm::Program;
+use stache_protocol::stache;
 use std::alloc::Global;
 use teapot_check::{CheckError, check};
 use teapot_parse::{ParseError, parse, read_trees_are_given, texts_have_text_lines};
 use teapot_tree::{Checked, Protocol, Rule};
 use tempest_input::{
-    Body, Choice, InputError, Setup, Why, laid_out, layout_is_read_both_ways, lexed, settings_of,
+    Body, Choice, InputError, Why, laid_out, layout_is_read_both_ways, lexed, settings_of,
 };
-
-/// What a valid text gives.
-#[derive(Debug, Drop)]
-pub struct Input {
-    /// The line of its number of nodes.
-    pub nodes: u32,
-    pub setup: Setup,
-    /// The protocol of its section, if it has one.
-    pub own: Option<Checked>,
-}
+use tw_base::{Listed, Memory};
 
 fn refused(line: u32, why: Why) -> InputError
     ensures { result ≡ InputError.Refused line why }
@@ -75,28 +69,49 @@ fn section_protocol(alloc: Global, body: &Body) -> Result<Checked, InputError>
     }
 }
 
-fn own_protocol(alloc: Global, choice: &Choice) -> Result<Option<Checked>, InputError>
+// The protocol of the text's section, else Stache.
+#[tactic(auto, unfolding(crate::specs::Inputs::protocol_of))]
+fn protocol_of(alloc: Global, choice: &Choice) -> Result<Checked, InputError>
     requires { IsOfText choice.now }
-    ensures { Gives is_memory (λ own. own) result (own_protocol choice.now) }
+    ensures { Gives is_memory (λ p. p) result (protocol_of choice.now) }
 {
-    let Choice::Own(_, body) = choice else {
-        return Ok(None);
-    };
-    Ok(Some(section_protocol(alloc, body)?))
+    match choice {
+        Choice::Own(_, body) => section_protocol(alloc, body),
+        Choice::Default | Choice::Shipped(_, _) => Ok(stache(alloc)?),
+    }
 }
 
-/// What a text gives, or its first fault.
+fn copies(alloc: Global, programs: &[Program]) -> Result<Vec<Program>, Memory>
+    ensures { IfOk result (λ copies. copies.items ≡ programs.now) }
+{
+    let mut copies = Vec::new(alloc);
+    for program in programs {
+        copies.push(program.copied(alloc)?)?;
+    }
+    Ok(copies)
+}
+
+// The settings of a text, under a protocol.
+fn under(alloc: Global, settings: &tempest_input::Setup, protocol: Checked) -> Result<Setup, Memory>
+    ensures { IfOk result (λ setup. setup ≡ under settings.now protocol) }
+{
+    let init = Listed::from_slice(alloc, settings.init())?;
+    let programs = Listed::of(copies(alloc, settings.programs())?);
+    let (version, shape) = (settings.version(), settings.shape());
+    Ok(Setup::new(version, shape, init, programs, protocol))
+}
+
+/// What a text sets up, or its first fault. The text has at most 1,048,576 bytes.
 #[tactic(auto, unfolding(crate::specs::Inputs::input_of))]
-pub fn input_of(alloc: Global, text: &[u8]) -> Result<Input, InputError>
+pub fn read_input(alloc: Global, text: &[u8]) -> Result<Setup, InputError>
     requires { length text.now + 2 < 2 ^ 32 }
-    ensures { Gives is_memory (λ i. i) result (input_of text.now) }
+    ensures { Gives is_memory (λ setup. setup) result (input_of text.now) }
 {
     texts_have_text_lines();
     layout_is_read_both_ways();
     let found = lexed(alloc, text)?;
     let layout = laid_out(alloc, found.all, found.list)?;
-    let nodes = layout.nodes.line;
-    let setup = settings_of(alloc, layout)?;
-    let own = own_protocol(alloc, setup.protocol())?;
-    Ok(Input { nodes, setup, own })
+    let settings = settings_of(alloc, layout)?;
+    let protocol = protocol_of(alloc, settings.protocol())?;
+    Ok(under(alloc, &settings, protocol)?)
 }

@@ -1,12 +1,10 @@
-ghost use Rattle.tempest_run.specs.Laws.{RunIsDetermined, RunIsThere, ReportPrints};
+ghost use Rattle.tempest_run.specs.Laws.{AnswerIsOne};
 
-/// A node's run is one, and it is the one that is computed.
-pub fn run_is_determined()
-    ensures one { RunIsDetermined }
-    ensures some { RunIsThere }
-{}
+use dsm_runs::schedules_are_one_run;
 
-/// The prints of a report are those of the journal, each once and in its order.
-pub fn report_has_the_prints()
-    ensures { ReportPrints }
-{}
+/// The status and what is written are a function of the words and the input.
+pub fn answer_is_one()
+    ensures { AnswerIsOne }
+{
+    schedules_are_one_run();
+}

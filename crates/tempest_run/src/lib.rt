@@ -1,18 +1,17 @@
-//! The top of the simulator: what the words of the command line ask for, what is answered to an input text, and the
-//! call that does all that the program does.
+//! The top of the simulator: what an input text sets up, what is answered to it, and the call that does all that the
+//! program does.
 #![tactic(auto)]
 
 mod accepted;
 mod answer;
 mod input;
 mod laws;
-mod report;
-mod run;
 mod status;
 mod top;
-mod words;
 
-pub use laws::{report_has_the_prints, run_is_determined};
+pub use dsm_runs::Setup;
+pub use input::read_input;
+pub use laws::answer_is_one;
 pub use status::Status;
+pub use tempest_input::{InputError, Why};
 pub use top::tempest_plain;
-pub use words::{Command, asked};

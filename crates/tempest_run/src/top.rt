@@ -3,14 +3,14 @@ ghost use Rattle.std.specs.String.{string_bytes};
 ghost use Rattle.std.specs.Io.KnownBytes.{Appends, Consumes, IsAtEnd, Keeps};
 ghost use Rattle.tw_io.specs.Causes.{Rose};
 ghost use Rattle.tw_io.specs.Reading.{AppendsPrefix};
-ghost use Rattle.tempest_run.specs.Answering.{IsAnswered, answer_of};
-ghost use Rattle.tempest_run.specs.Reports.{line};
-ghost use Rattle.tempest_run.specs.Words.{asked};
+ghost use Rattle.journal.specs.Reports.{line};
+ghost use Rattle.tempest_words.specs.Words.{asked};
+ghost use Rattle.tempest_run.specs.Answering.{Answer, IsAnswer, IsAnswered};
 
 use crate::answer::answer_to;
 use crate::status::Status;
-use crate::words::asked;
 use std::alloc::Global;
+use tempest_words::asked;
 use tw_io::{Failed, ReadError, Sink, Source, read_all, write_all_counted};
 
 const MAX_INPUT: u32 = 1_048_576;
@@ -26,8 +26,8 @@ pub fn tempest_plain<S: Source, K: Sink>(
     // With the statuses Done, Refused and Unfinished all bytes were read, and the status and what was written are the
     // answer to them.
     ensures answered { IsAnswered result → IsAtEnd (S.left source.new) × IfSome (S.left source.old)
-        (λ text. IfSome (asked (map string_bytes words.now)) (λ command.
-        (result ≡ (answer_of command text).status) × Appends (K.written sink.old) (K.written sink.new) (answer_of command text).text)) }
+        (λ text. IfSome (asked (map string_bytes words.now)) (λ asked. (a : Answer) × IsAnswer asked text a ×
+        (result ≡ a.status) × Appends (K.written sink.old) (K.written sink.new) a.text)) }
 
     ensures within { IsAnswered result → IfSome (S.left source.old) (λ text. length text ≤ 1048576) }
 
@@ -44,18 +44,18 @@ pub fn tempest_plain<S: Source, K: Sink>(
     ensures write_fault { result ≡ Status.WriteFault → Rose (K.faults sink.old) (K.faults sink.new) }
 
     // What a fault of the sink leaves is a front of what was to be written.
-    ensures prefix { result ≡ Status.WriteFault → IfSome (asked (map string_bytes words.now)) (λ command. IfSome (S.left source.old)
-        (λ text. length text ≤ 1048576 → AppendsPrefix (K.written sink.old) (K.written sink.new) (answer_of command text).text)) }
+    ensures prefix { result ≡ Status.WriteFault → IfSome (asked (map string_bytes words.now)) (λ asked. IfSome (S.left source.old)
+        (λ text. length text ≤ 1048576 → (a : Answer) × IsAnswer asked text a × AppendsPrefix (K.written sink.old) (K.written sink.new) a.text)) }
 
     // Where neither end failed, an input that is told is answered, unless memory ran out.
     ensures complete { ¬ Rose (S.faults source.old) (S.faults source.new) → ¬ Rose (K.faults sink.old) (K.faults sink.new)
-        → IfSome (asked (map string_bytes words.now)) (λ command. IfSome (S.left source.old)
-        (λ text. length text ≤ 1048576 → (result ≡ Status.Memory) ⊎ (result ≡ (answer_of command text).status))) }
+        → IfSome (asked (map string_bytes words.now)) (λ asked. IfSome (S.left source.old)
+        (λ text. length text ≤ 1048576 → (result ≡ Status.Memory) ⊎ ((a : Answer) × IsAnswer asked text a × (result ≡ a.status)))) }
 
     // Nothing is written where the input could not be read, or for want of memory.
     ensures nothing { (result ≡ Status.ReadFault) ⊎ (result ≡ Status.Memory) → Keeps (K.written sink.old) (K.written sink.new) }
 {
-    let Some(command) = asked(words) else {
+    let Some(asked) = asked(words) else {
         return match write_all_counted(sink, b"refused words\n") {
             Ok(()) => Status::Usage,
             Err(Failed) => Status::WriteFault,
@@ -72,7 +72,7 @@ pub fn tempest_plain<S: Source, K: Sink>(
         }
         Err(ReadError::Memory) => return Status::Memory,
     };
-    let Ok(answer) = answer_to(alloc, command, &text) else {
+    let Ok(answer) = answer_to(alloc, asked, &text) else {
         return Status::Memory;
     };
     match write_all_counted(sink, &answer.text) {
@@ -80,6 +80,3 @@ pub fn tempest_plain<S: Source, K: Sink>(
         Err(Failed) => Status::WriteFault,
     }
 }
-
-#[cfg(test)]
-mod tests;

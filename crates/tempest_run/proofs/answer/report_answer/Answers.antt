@@ -1,15 +1,44 @@
-use Rattle.std.proofs.Common.{length, ap, ◌∙◌, arith}
-use Rattle.std.proofs.lemmas.List.{length-replicate}
-use Rattle.tempest_run.proofs.Running.{run_from-length, run_from-cores}
+use Rattle.std.proofs.Common.{◌≡◌, ◌<◌, ◌^◌, List, ℕ, length, refl, sym, ap, subst, ◌∙◌}
+use Rattle.tw_base.specs.declared.entry.Entry.{Entry}
+use Rattle.dsm_runs.specs.Schedules.{Settles}
+use Rattle.dsm_runs.specs.Worlds.{start}
+use Rattle.dsm_model.specs.Globals.{setup_of, world_of}
+use Rattle.journal.specs.Finals.{finals_of}
+use Rattle.journal.specs.Gathered.{words_of}
+use Rattle.tempest_run.proofs.Telling.{broken_is, from_start, short, tale}
 use Rattle.tempest_run.proofs.answer.report_answer.Goals as goal
 
-pub final_of-ended-requires-clause-node : goal.final_of-ended-requires-clause-node
-final_of-ended-requires-clause-node c =
-    let kept = run_from-cores _ _ _ _ _ c.in_ok-journal.ensures in
-    let begun = ap (λ m. length m.cores) c.in_ok-flat.ensures ∙ length-replicate _ _ in
-    omega (arith, kept, begun, c.budget-budget.ensures.limits.some_node, c.first_node-node.ensures)
+pub first_break-broken-requires : goal.first_break-broken-requires
+first_break-broken-requires c =
+    let s = c.args.setup.now in
+    let j = c.in_ok-entries.entries in
+    let settles = from_start s (setup_of c.in_ok-g.g) c.args.stride (world_of c.in_ok-g.g) j (world_of c.settle.new.g) c.in_ok-g.ensures.setup c.in_ok-g.ensures.world c.in_ok-entries.ensures.settles in
+    let run = c.schedules_are_one_run.ensures.run s c.args.stride 0 (start s) j (world_of c.settle.new.g) settles in
+    let events = c.runs_are_short.ensures.events s j (world_of c.settle.new.g) run in
+    subst (λ (xs : List Entry). length xs < 2 ^ 32) (sym c.items.ensures) (short s.shape j c.shape.ensures.valid.limits events)
 
-pub final_of-ended-requires-clause-count : goal.final_of-ended-requires-clause-count
-final_of-ended-requires-clause-count c =
-    let few = run_from-length _ _ _ _ _ c.in_ok-journal.ensures in
-    omega (arith, few, c.len.ensures)
+pub returns-clause-value : goal.returns-clause-value
+returns-clause-value c =
+    let s = c.args.setup.now in
+    let o = c.args.options in
+    let j = c.in_ok-entries.entries in
+    let h = world_of c.settle.new.g in
+    let settles = from_start s (setup_of c.in_ok-g.g) c.args.stride (world_of c.in_ok-g.g) j h c.in_ok-g.ensures.setup c.in_ok-g.ensures.world c.in_ok-entries.ensures.settles in
+    let run = c.schedules_are_one_run.ensures.run s c.args.stride 0 (start s) j h settles in
+    let same : setup_of c.settle.new.g ≡ s = c.settle.ensures.setup ∙ c.in_ok-g.ensures.setup in
+    let finals : c.in_ok-finals.finals ≡ finals_of s h = c.in_ok-finals.ensures ∙ ap (λ x. finals_of x h) same in
+    let words : c.in_ok-words.words ≡ words_of s h = c.in_ok-words.ensures ∙ ap (λ x. words_of x h) same in
+    let broken = broken_is s j c.items.result.now c.in_ok-flat.flat c.shape.result c.init.result.now c.programs.result.now c.first_break-broken.result
+    c.first_break-broken.ensures c.in_ok-flat.ensures c.shape.ensures.value c.init.ensures.value c.programs.ensures.value c.items.ensures in
+    record {
+      journal = j;
+      state = h;
+      run = record {
+        schedule = settles;
+        run = run;
+        quiet = c.schedules_are_one_run.ensures.quiet s c.args.stride 0 (start s) j h settles;
+        history = c.history_is_told.ensures s j h c.shape.ensures.valid run;
+      };
+      tells = tale s o j c.items-2.result.now h c.items-3.result.now c.items-5.result.now c.items-4.result.now c.first_break-broken.result c.status_of.result c.in_ok-text.text.items
+          c.items-2.ensures (c.items-3.ensures ∙ finals) (c.items-5.ensures ∙ finals) (c.items-4.ensures ∙ words) broken c.status_of.ensures.value c.in_ok-text.ensures;
+    }

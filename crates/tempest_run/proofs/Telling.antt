@@ -1,0 +1,60 @@
+-- A run and the report that tells of it.
+use Rattle.std.proofs.Common.{◌≡◌, ℕ, zero, suc, ◌+◌, ◌*◌, ◌^◌, ◌<◌, ◌≤◌, List, Option, length, refl, sym, ap, subst, ◌∙◌, arith}
+use Rattle.tw_base.specs.Shape.{Sizes, IsWithinLimits, handler_budget_of}
+use Rattle.tw_base.specs.declared.entry.Entry.{Entry}
+use Rattle.mini_asm.specs.Run.{Machine, start_of}
+use Rattle.mini_asm.specs.declared.instr.Instr.{Instr}
+use Rattle.dsm_runs.specs.Schedules.{Settles}
+use Rattle.dsm_runs.specs.Setups.{Setup}
+use Rattle.dsm_runs.specs.Worlds.{World, start}
+use Rattle.journal.specs.declared.finals.Final.{Final}
+use Rattle.journal.specs.declared.history.Break.{Break}
+use Rattle.journal.specs.declared.reports.Options.{Options}
+use Rattle.journal.specs.Finals.{finals_of}
+use Rattle.journal.specs.Gathered.{words_of}
+use Rattle.journal.specs.History.{break_from, first_break}
+use Rattle.journal.specs.Reports.{report_of}
+use Rattle.tempest_run.specs.Answering.{Answer, report_answer, status_of}
+use Rattle.tempest_run.specs.declared.status.Status.{Status}
+
+-- a run of at most eight nodes within the limits has few events
+few : (n budget count : ℕ) → n ≤ 8 → (4 * n + 4) * n * budget ≤ 1250000 → count ≤ n * (budget + (4 * n + 4) * n * budget) → count < 2 ^ 32
+few zero budget count eight limit at_most = omega (arith, at_most)
+few (suc zero) budget count eight limit at_most = omega (arith, limit, at_most)
+few (suc (suc zero)) budget count eight limit at_most = omega (arith, limit, at_most)
+few (suc (suc (suc zero))) budget count eight limit at_most = omega (arith, limit, at_most)
+few (suc (suc (suc (suc zero)))) budget count eight limit at_most = omega (arith, limit, at_most)
+few (suc (suc (suc (suc (suc zero))))) budget count eight limit at_most = omega (arith, limit, at_most)
+few (suc (suc (suc (suc (suc (suc zero)))))) budget count eight limit at_most = omega (arith, limit, at_most)
+few (suc (suc (suc (suc (suc (suc (suc zero))))))) budget count eight limit at_most = omega (arith, limit, at_most)
+few (suc (suc (suc (suc (suc (suc (suc (suc zero)))))))) budget count eight limit at_most = omega (arith, limit, at_most)
+few (suc (suc (suc (suc (suc (suc (suc (suc (suc n))))))))) budget count eight limit at_most = absurd (omega (arith, eight))
+
+pub short : (s : Sizes) (j : List Entry) → IsWithinLimits s → length j ≤ s.nodes * (s.budget + handler_budget_of s) → length j < 2 ^ 32
+short s j limits at_most = few s.nodes s.budget (length j) limits.nodes limits.budget at_most
+
+-- a schedule from a state that is the start
+pub from_start : (s t : Setup) (stride : ℕ) (g : World) (j : List Entry) (h : World) → t ≡ s → g ≡ start s → Settles t stride 0 g j h → Settles s stride 0 (start s) j h
+from_start s t stride g j h e f settles = subst (λ u. Settles u stride 0 (start s) j h) e (subst (λ w. Settles t stride 0 w j h) f settles)
+
+abbrev answer : Status → List ℕ → Answer
+answer status text = record { status = status; text = text }
+
+-- what is made of the parts of a run is its report
+pub tale :
+    (s : Setup) (o : Options) (j j1 : List Entry) (g : World) (f1 f2 : List Final) (w : List ℕ) (b : Option Break) (status : Status) (text : List ℕ) →
+    j1 ≡ j → f1 ≡ finals_of s g → f2 ≡ finals_of s g → w ≡ words_of s g → b ≡ first_break s j →
+    status ≡ status_of f2 → text ≡ report_of s j1 f1 w b o → record { status = status; text = text } ≡ report_answer s j g o
+tale s o j j1 g f1 f2 w b status text hj h1 h2 hw hb hs ht =
+    let whole : text ≡ report_of s j (finals_of s g) (words_of s g) (first_break s j) o =
+    ht ∙ ap (λ x. report_of s x f1 w b o) hj ∙ ap (λ x. report_of s j x w b o) h1 ∙ ap (λ x. report_of s j (finals_of s g) x b o) hw
+    ∙ ap (λ x. report_of s j (finals_of s g) (words_of s g) x o) hb in
+    ap (λ x. answer x text) (hs ∙ ap status_of h2) ∙ ap (λ x. answer (status_of (finals_of s g)) x) whole
+
+-- the first break, on a flat machine at its start
+pub broken_is :
+    (s : Setup) (j j1 : List Entry) (m : Machine) (sizes : Sizes) (init : List (ℕ × ℕ)) (programs : List (List Instr)) (b : Option Break) →
+    b ≡ break_from m 0 j1 → m ≡ start_of sizes init programs → sizes ≡ s.shape → init ≡ s.init → programs ≡ s.programs → j1 ≡ j → b ≡ first_break s j
+broken_is s j j1 m sizes init programs b hb hm hs hi hp hj =
+    hb ∙ ap (λ x. break_from x 0 j1) (hm ∙ ap (λ x. start_of x init programs) hs ∙ ap (λ x. start_of s.shape x programs) hi ∙ ap (λ x. start_of s.shape s.init x) hp)
+    ∙ ap (λ x. break_from (start_of s.shape s.init s.programs) 0 x) hj

@@ -1,0 +1,34 @@
+use std::alloc::Global;
+use std::process::Abort;
+use std::test::Fail;
+use tempest_run::{Status, tempest_plain};
+use tw_io::{MemSink, MemSource};
+
+pub const ROOM: usize = 1_048_576;
+
+pub fn words(alloc: Global, text: &str) -> Result<Vec<String>, Fail> {
+    let mut words = Vec::new(alloc);
+    for word in text.split(' ') {
+        if !word.is_empty() {
+            words.push(String::from_str(alloc, word)?)?;
+        }
+    }
+    Ok(words)
+}
+
+pub fn expect(
+    rt: &impl Abort,
+    alloc: Global,
+    asked: &str,
+    text: &str,
+    status: Status,
+    written: &str,
+) -> Result<(), Fail> {
+    let words = words(alloc, asked)?;
+    let mut source = MemSource::new(text.as_bytes().to_vec(alloc)?, 40, Vec::new(alloc));
+    let mut sink = MemSink::new(alloc, ROOM, 16, Vec::new(alloc))?;
+    let got = tempest_plain(alloc, &words, &mut source, &mut sink);
+    assert_eq!(rt; sink.bytes(), written.as_bytes());
+    assert_eq!(rt; got, status);
+    Ok(())
+}

@@ -1,0 +1,11 @@
+//! Tests of the whole: input texts, the words of the command line, and what is written. It has no code of its own.
+#![tactic(auto)]
+
+#[cfg(test)]
+mod asking;
+#[cfg(test)]
+mod counts;
+#[cfg(test)]
+mod runs;
+#[cfg(test)]
+mod texts;
