@@ -10,3 +10,4 @@ mod Keeping
 mod FirstSound
 mod SameMessage
 mod Redelivering
+mod Counting

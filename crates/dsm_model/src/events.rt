@@ -1,11 +1,11 @@
 ghost use Rattle.std.specs.Prelude.{◌≡◌, ◌↔◌, IsTrue, nat_lt};
 ghost use Rattle.std.specs.Option.{option_copied};
 ghost use Rattle.dsm_model.specs.Globals.{setup_of, world_of};
-ghost use Rattle.dsm_runs.specs.Tests.{is_ready, is_woken, may_instruct, may_handle, has_eligible, is_early, is_enabled};
+ghost use Rattle.dsm_runs.specs.Tests.{is_ready, is_woken, may_instruct, may_handle, is_early, is_enabled};
 ghost use Rattle.dsm_model.specs.Views.{local_of};
 ghost use Rattle.dsm_runs.specs.Worlds.{IsEnabled};
 
-use crate::{Global, Local, Mode, Setup, Waiting};
+use crate::{Global, Local, Mode, Setup};
 use tw_base::{Event, Message, NodeId};
 
 fn is_ready(mode: Mode) -> bool
@@ -44,12 +44,6 @@ pub fn may_handle(setup: &Setup, me: NodeId, l: &Local) -> bool
         && l.clock < u64::MAX
 }
 
-pub fn has_eligible(deferred: &[Waiting]) -> bool
-    ensures { result ≡ has_eligible deferred.now }
-{
-    deferred.iter().any(|waiting| waiting.eligible)
-}
-
 pub fn is_early(front: Option<&Message>) -> bool
     ensures { result ≡ is_early (option_copied front.entry) }
 {
@@ -82,13 +76,13 @@ fn is_enabled(g: &Global, e: Event) -> bool
         Event::Redeliver(i) => {
             is_node(setup, i)
                 && may_handle(setup, i, g.local(i))
-                && has_eligible(g.local(i).deferred.items())
+                && g.local(i).deferred.has_eligible()
         }
         Event::Deliver { at, from, chan } => {
             is_node(setup, at)
                 && is_node(setup, from)
                 && may_handle(setup, at, g.local(at))
-                && !has_eligible(g.local(at).deferred.items())
+                && !g.local(at).deferred.has_eligible()
                 && is_early(g.message(from, at, chan, 0))
         }
     }

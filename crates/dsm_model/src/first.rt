@@ -7,7 +7,7 @@ ghost use Rattle.dsm_runs.specs.Locals.{first};
 ghost use Rattle.dsm_runs.specs.Setups.{first_copies, first_here, start_line, start_state, start_tag};
 ghost use Rattle.dsm_model.specs.Views.{local_of};
 
-use crate::{Local, Mode, Setup};
+use crate::{Deferred, Local, Mode, Setup};
 use block_tags::Blocks;
 use mini_asm::Cpu;
 use std::alloc::Global;
@@ -129,7 +129,7 @@ pub fn first(alloc: Global, setup: &Setup, me: NodeId) -> Result<Local, Memory>
         clock: 0,
         cpu: Cpu::new(),
         blocks: first_blocks(alloc, setup, me)?,
-        deferred: Listed::new(alloc),
+        deferred: Deferred::new(alloc),
         instructions: 0,
         handled: 0,
         sent: 0,

@@ -1,11 +1,11 @@
-ghost use Rattle.std.specs.Prelude.{◌≡◌, ◌≤◌, ◌<◌, ◌+◌, ◌++◌, ◌^◌, true, map, take, drop, length, IfOk, OnOk, OnErr};
+ghost use Rattle.std.specs.Prelude.{◌≡◌, ◌<◌, ◌+◌, ◌^◌, true, map, length, IfOk, OnOk, OnErr};
 ghost use Rattle.dsm_runs.specs.Args.{padded_args, used_args};
-ghost use Rattle.dsm_runs.specs.Events.{failure, free, freed_if, mode_after, with_kept};
+ghost use Rattle.dsm_runs.specs.Events.{failure, freed_if, mode_after, with_kept};
 ghost use Rattle.dsm_model.specs.Kept.{is_served};
 ghost use Rattle.dsm_model.specs.Makes.{IsHandling, handled_entry, handled_node};
 ghost use Rattle.dsm_runs.specs.Messages.{chan_of, fault, message_of, outgoing};
 
-use crate::{Local, Mode, Setup, Waiting};
+use crate::{Deferred, Local, Mode, Setup, Waiting};
 use std::alloc::Global;
 use teapot_meaning::{Ended, Here, Kept, Out, run};
 use teapot_tree::Checked;
@@ -109,28 +109,8 @@ pub fn fault_of(store: bool, block: BlockId, me: NodeId) -> Message
     }
 }
 
-fn free(waiting: Waiting, block: BlockId) -> Waiting
-    ensures { result ≡ free block waiting }
-{
-    Waiting {
-        message: waiting.message,
-        eligible: waiting.message.block == block || waiting.eligible,
-    }
-}
-
-/// Frees those of the first messages that wait for a block.
-fn free_first(deferred: &mut Listed<Waiting>, count: usize, block: BlockId)
-    requires { count ≤ length deferred.old }
-    ensures { deferred.new ≡ map (free block) (take count deferred.old) ++ drop count deferred.old }
-{
-    for at in 0..count {
-        let freed = free(deferred.items()[at], block);
-        deferred.set(at, freed);
-    }
-}
-
 /// Puts a message behind the others that are deferred, if its handler says so.
-fn keep(deferred: &mut Listed<Waiting>, kept: Kept, message: Message) -> Result<(), Memory>
+fn keep(deferred: &mut Deferred, kept: Kept, message: Message) -> Result<(), Memory>
     ensures ok { OnOk result (deferred.new ≡ with_kept kept message deferred.old) }
     ensures err { OnErr result (deferred.new ≡ deferred.old) }
 {
@@ -144,14 +124,14 @@ fn keep(deferred: &mut Listed<Waiting>, kept: Kept, message: Message) -> Result<
 }
 
 /// What the handler of a message does to the messages that are deferred. After an Err they are as before.
-pub fn defer(deferred: &mut Listed<Waiting>, ended: &Ended, message: &Message) -> Result<(), Memory>
+pub fn defer(deferred: &mut Deferred, ended: &Ended, message: &Message) -> Result<(), Memory>
     ensures ok { OnOk result (deferred.new ≡ with_kept ended.now.kept message.now (freed_if ended.now.freed message.now.block deferred.old)) }
     ensures err { OnErr result (deferred.new ≡ deferred.old) }
 {
     let count = deferred.len();
     keep(deferred, ended.kept, *message)?;
     if ended.freed {
-        free_first(deferred, count, message.block);
+        deferred.free_first(count, message.block);
     }
     Ok(())
 }

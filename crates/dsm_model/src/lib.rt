@@ -5,6 +5,7 @@
 //! enabled, and gives their entries (`Settles`). `outcome_of` says how a node ended. Want of memory is the only error.
 #![tactic(auto)]
 
+mod deferred;
 mod events;
 mod first;
 mod global;
@@ -20,6 +21,7 @@ mod stepping;
 mod take;
 mod wires;
 
+pub use deferred::Deferred;
 pub use dsm_runs::{Mode, Outcome, Setup, Waiting};
 pub use events::enabled;
 pub use global::Global;

@@ -1,4 +1,4 @@
-use crate::{Mode, Waiting};
+use crate::{Deferred, Mode};
 use mini_asm::Cpu;
 use teapot_meaning::Here;
 use tw_base::{End, Listed};
@@ -12,7 +12,7 @@ pub struct Local {
     pub clock: u64,
     pub cpu: Cpu,
     pub blocks: Listed<Here>,
-    pub deferred: Listed<Waiting>,
+    pub deferred: Deferred,
     pub instructions: u32,
     pub handled: u32,
     pub sent: u32,

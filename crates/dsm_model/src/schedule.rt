@@ -5,7 +5,7 @@ ghost use Rattle.dsm_model.specs.Globals.{setup_of, world_of};
 ghost use Rattle.dsm_runs.specs.Schedules.{Advances, Settles, chosen, deliveries, enabled_events, node_events};
 ghost use Rattle.dsm_runs.specs.Tests.{has_eligible, is_enabled, may_handle};
 
-use crate::events::{has_eligible, is_early, may_handle, may_instruct};
+use crate::events::{is_early, may_handle, may_instruct};
 use crate::{Global, step};
 use std::alloc;
 use tw_base::{Chan, Entry, Event, Listed, Memory, NodeId};
@@ -55,7 +55,7 @@ fn add_handlers(g: &Global, node: NodeId, some: &mut Listed<Event>) -> Result<()
     if !may_handle(g.setup(), node, l) {
         return Ok(());
     }
-    if has_eligible(l.deferred.items()) {
+    if l.deferred.has_eligible() {
         return some.push(Event::Redeliver(node));
     }
     add_deliveries(g, node, some)

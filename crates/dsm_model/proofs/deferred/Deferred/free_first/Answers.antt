@@ -3,13 +3,13 @@ use Rattle.std.proofs.Math.ListN.{length-set}
 use Rattle.dsm_runs.specs.declared.mode.Waiting.{Waiting}
 use Rattle.dsm_runs.specs.Events.{free}
 use Rattle.dsm_model.proofs.Deferring.{one_freed}
-use Rattle.dsm_model.proofs.handle.free_first.Goals as goal
+use Rattle.dsm_model.proofs.deferred.Deferred.free_first.Goals as goal
 
 pub loop-at-preserved : goal.loop-at-preserved
 loop-at-preserved c =
     let b = c.args.block in
-    let ws : List Waiting = c.args.deferred.now in
-    let now : List Waiting = c.loop-at.deferred in
+    let ws : List Waiting = c.args.self.now in
+    let now : List Waiting = c.loop-at.self in
     let k = c.loop-at.at in
     let d = c.index-items-at.result in
     let within : k < length ws = search rules in
