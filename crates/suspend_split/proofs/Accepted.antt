@@ -77,10 +77,10 @@ name_found (a ∷ ps) n e = by_test (bytes_eq a.name n) e (name_found ps n)
     by_test false e more = more e
 
 -- an info has a number, and a local a slot
-info_has : (p : Protocol) (n : Name) → is_among (map of_param p.infos) n ≡ true → (k : ℕ) × (info_number p n ≡ Some k)
+pub info_has : (p : Protocol) (n : Name) → is_among (map of_param p.infos) n ≡ true → (k : ℕ) × (info_number p n ≡ Some k)
 info_has p n e = has_place (λ i. bytes_eq i.name n) p.infos (param_found p.infos n e)
 
-local_has : (t : State) (h : Handler) (n : Name) → is_among (map of_param h.locals) n ≡ true → (k : ℕ) × (slot_of (names_in t h) n ≡ Some k)
+pub local_has : (t : State) (h : Handler) (n : Name) → is_among (map of_param h.locals) n ≡ true → (k : ℕ) × (slot_of (names_in t h) n ≡ Some k)
 local_has t h n e =
     let test : Name → Bool = λ m. bytes_eq m n in
     let among = name_found h.locals n (param_found h.locals n e) in
@@ -88,7 +88,7 @@ local_has t h n e =
     let inner = found_behind test (map (λ a. a.name) t.params) (h.args ++ map (λ a. a.name) h.locals) args in
     has_place test (names_in t h) (found_behind test (codes "src" ∷ []) (map (λ a. a.name) t.params ++ (h.args ++ map (λ a. a.name) h.locals)) inner)
 
-put_has : (p : Protocol) (t : State) (h : Handler) (n : Name) → is_among (assignable (scope_of p t h)) n ≡ true → (o : OpCode) × (put_op (slot_of (names_in t h) n) (info_number p n) ≡ Some o)
+pub put_has : (p : Protocol) (t : State) (h : Handler) (n : Name) → is_among (assignable (scope_of p t h)) n ≡ true → (o : OpCode) × (put_op (slot_of (names_in t h) n) (info_number p n) ≡ Some o)
 put_has p t h n e = by_slot (slot_of (names_in t h) n) refl (among_parts (infos_in (scope_of p t h)) (locals_in (scope_of p t h)) n e)
   where
     by_slot : (i : Option ℕ) → slot_of (names_in t h) n ≡ i → (is_among (infos_in (scope_of p t h)) n ≡ true) ⊎ (is_among (locals_in (scope_of p t h)) n ≡ true) → (o : OpCode) × (put_op i (info_number p n) ≡ Some o)
@@ -98,14 +98,14 @@ put_has p t h n e = by_slot (slot_of (names_in t h) n) refl (among_parts (infos_
 
 -- ---- counts
 
-message_counted : (p : Protocol) (n : Name) (count : ℕ) → is_some (message_of p n) ≡ true → is_message_count (message_of p n) count ≡ true → message_arity (slice_get p.messages (declared (message_number p n))) ≡ count
+pub message_counted : (p : Protocol) (n : Name) (count : ℕ) → is_some (message_of p n) ≡ true → is_message_count (message_of p n) count ≡ true → message_arity (slice_get p.messages (declared (message_number p n))) ≡ count
 message_counted p n count e c =
     let m = some_of (message_of p n) e in
     let k = place_found (λ d. bytes_eq d.name n) p.messages m.0 m.1 in
     let same : count ≡ length m.0.args = eqb-true count (length m.0.args) (subst (λ o. is_message_count o count ≡ true) m.1 c) in
     ap (λ o. message_arity (slice_get p.messages (declared o))) k.1 ∙ ap message_arity k.2 ∙ sym same
 
-state_counted : (p : Protocol) (n : Name) (count : ℕ) → is_some (state_of p n) ≡ true → is_state_count (state_of p n) count ≡ true → state_arity (slice_get p.states (declared (state_number p n))) ≡ count
+pub state_counted : (p : Protocol) (n : Name) (count : ℕ) → is_some (state_of p n) ≡ true → is_state_count (state_of p n) count ≡ true → state_arity (slice_get p.states (declared (state_number p n))) ≡ count
 state_counted p n count e c =
     let m = some_of (state_of p n) e in
     let k = place_found (λ d. bytes_eq d.name n) p.states m.0 m.1 in
@@ -133,12 +133,12 @@ module _ (p : Protocol) (t : State) (h : Handler) where
   simple_fine line wake_up rest k f = fine.plain {o = op.Wake} (ap plain_op (out-roll-Do Do-F.WakeUp)) f
 
   -- what the first statement keeps, by what it does
-  first_keeps : (line : ℕ) (l : Layer) (rest : List Stmt) → are_sound (scope_of p t h) (stmt line l ∷ rest) ≡ true → (layer_sound (scope_of p t h) l ≡ true) × (are_sound (scope_of p t h) rest ≡ true)
+  pub first_keeps : (line : ℕ) (l : Layer) (rest : List Stmt) → are_sound (scope_of p t h) (stmt line l ∷ rest) ≡ true → (layer_sound (scope_of p t h) l ≡ true) × (are_sound (scope_of p t h) rest ≡ true)
   first_keeps line l rest e =
       let parts = and_parts (is_sound (scope_of p t h) (stmt line l)) _ e in
       (sym (sound_at (scope_of p t h) (stmt line l) l (out-roll-Do l)) ∙ parts.0, parts.1)
 
-  simple_keeps : (a : Simple) → layer_sound (scope_of p t h) (do_of a) ≡ true → Keeps (scope_of p t h) (does a)
+  pub simple_keeps : (a : Simple) → layer_sound (scope_of p t h) (do_of a) ≡ true → Keeps (scope_of p t h) (does a)
   simple_keeps (assign n e) k = unpacked (scope_of p t h) _ k
   simple_keeps (send e n xs) k = unpacked (scope_of p t h) _ k
   simple_keeps (send_all e n xs) k = unpacked (scope_of p t h) _ k

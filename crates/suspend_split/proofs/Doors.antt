@@ -86,18 +86,18 @@ module _ (number : ℕ) (w : Handler → Bool) where
 -- ---- doors among all
 
 -- the door that a test finds, and the handlers before its own
-record DoorStands (p : Protocol) (f : Door → Bool) (entries : List Entry) (d : Entry) (at r h : ℕ) : Type 0 where
-  before : List Entry
-  after : List Entry
-  place : ℕ
-  rest : ℕ
-  are : entries ≡ before ++ d ∷ after
-  place-is : place ≡ at + length (in_order (map (entry_code p) before) at r h)
-  rest-is : rest ≡ r + rests_in (in_order (map (entry_code p) before) at r h)
-  found : find f (doors_from p at r entries) ≡ Some (door_of p d place (entry_code p d place rest 0))
+pub record DoorStands (p : Protocol) (f : Door → Bool) (entries : List Entry) (d : Entry) (at r h : ℕ) : Type 0 where
+  pub before : List Entry
+  pub after : List Entry
+  pub place : ℕ
+  pub rest : ℕ
+  pub are : entries ≡ before ++ d ∷ after
+  pub place-is : place ≡ at + length (in_order (map (entry_code p) before) at r h)
+  pub rest-is : rest ≡ r + rests_in (in_order (map (entry_code p) before) at r h)
+  pub found : find f (doors_from p at r entries) ≡ Some (door_of p d place (entry_code p d place rest 0))
 
 module _ (p : Protocol) (f : Door → Bool) (g : Entry → Bool) (same : (d : Entry) (at : ℕ) (ops : List OpCode) → f (door_of p d at ops) ≡ g d) where
-  door_found : (entries : List Entry) (d : Entry) (at r h : ℕ) → find g entries ≡ Some d → DoorStands p f entries d at r h
+  pub door_found : (entries : List Entry) (d : Entry) (at r h : ℕ) → find g entries ≡ Some d → DoorStands p f entries d at r h
   door_found [] d at r h e = cc
   door_found (b ∷ entries) d at r h e =
       by_test (g b) refl e (door_found entries d (at + length (entry_code p b at r h)) (r + rests_in (entry_code p b at r h)) (h + loops_in (entry_code p b at r h)))
@@ -175,7 +175,7 @@ alike_on p (kind.Named n) (t.Named name) e =
     known None e = cc
 alike_on p (kind.Named n) t.Default e = refl
 
-else_alike : (p : Protocol) (on : Trigger) → is_for_all_else (kind_of p on) ≡ is_default on
+pub else_alike : (p : Protocol) (on : Trigger) → is_for_all_else (kind_of p on) ≡ is_default on
 else_alike p t.RdFault = refl
 else_alike p t.WrFault = refl
 else_alike p (t.Named name) = refl

@@ -29,11 +29,11 @@ body_code p before d =
     let names = names_in d.state d.handler in
     code_of p names d.handler.body (length others) (rests_in others) (length names)
 
-append-nil : {A : Type 0} (xs : List A) → xs ++ [] ≡ xs
+pub append-nil : {A : Type 0} (xs : List A) → xs ++ [] ≡ xs
 append-nil [] = refl
 append-nil (x ∷ xs) = ap (λ l. x ∷ l) (append-nil xs)
 
-has_all : (is pre : List OpCode) → HasAt (pre ++ is) (length pre) is
+pub has_all : (is pre : List OpCode) → HasAt (pre ++ is) (length pre) is
 has_all [] pre = tt
 has_all (i ∷ is) pre =
     let within : length pre < length (pre ++ i ∷ is) = omega (arith, length-append pre (i ∷ is)) in
@@ -77,7 +77,7 @@ split f (b ∷ before) after d at r h =
       same = ap (λ l. c ++ l) s.same ∙ sym (append_assoc c pre (f d s.place s.rest s.loop ++ s.post));
     }
 
-all_numbered : (p : Protocol) (entries : List Entry) (at r h : ℕ) → AllFine p entries → NumberedFrom r (in_order (map (entry_code p) entries) at r h)
+pub all_numbered : (p : Protocol) (entries : List Entry) (at r h : ℕ) → AllFine p entries → NumberedFrom r (in_order (map (entry_code p) entries) at r h)
 all_numbered p [] at r h a = tt
 all_numbered p (d ∷ entries) at r h a =
     let names = names_in d.state d.handler in
@@ -85,12 +85,12 @@ all_numbered p (d ∷ entries) at r h a =
     let c = body ++ op.Done ∷ [] in
     numbered-append c _ r (numbered-append body (op.Done ∷ []) r (numbers p names a.0 at r (length names)) (tt, tt)) (all_numbered p entries (at + length c) (r + rests_in c) (h + loops_in c) a.1)
 
-one_fine : (p : Protocol) (before after : List Entry) (d : Entry) → AllFine p (before ++ d ∷ after) → Fine p (names_in d.state d.handler) d.handler.body
+pub one_fine : (p : Protocol) (before after : List Entry) (d : Entry) → AllFine p (before ++ d ∷ after) → Fine p (names_in d.state d.handler) d.handler.body
 one_fine p [] after d a = a.0
 one_fine p (b ∷ before) after d a = one_fine p before after d a.1
 
 module _ (p : Protocol) (code : Code) (compiled : IsCode p code) (fine : AllFine p (entries_of p)) where
-  rests : RestsFollow code
+  pub rests : RestsFollow code
   rests =
       rests_follow code (subst (NumberedFrom 0) (sym compiled.ops) (all_numbered p (entries_of p) 0 0 0 fine)) compiled.places
 

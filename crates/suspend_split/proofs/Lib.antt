@@ -1,17 +1,17 @@
-mod Accepted
-mod Agree
-mod Args
-mod Chains
-mod Doors
-mod Entering
-mod Exprs
-mod Fine
-mod Handlers
-mod Numbered
-mod OneCode
-mod Placed
-mod Places
-mod Rests
-mod Steps
-mod Values
-mod Vars
+pub mod Accepted
+pub mod Agree
+pub mod Args
+pub mod Chains
+pub mod Doors
+pub mod Entering
+pub mod Exprs
+pub mod Fine
+pub mod Handlers
+pub mod Numbered
+pub mod OneCode
+pub mod Placed
+pub mod Places
+pub mod Rests
+pub mod Steps
+pub mod Values
+pub mod Vars

@@ -104,11 +104,11 @@ module _ (p : Protocol) (names : List Name) where
       let f : HasAt ops at (layer_expr (out-Expr e)) → Evaluates p names ops at e (at + length (layer_expr (out-Expr e))) = layer_placed ops n (below_placed ops n) e (out-Expr e) refl lt at in
       subst (λ c. HasAt ops at c → Evaluates p names ops at e (at + length c)) (sym (expr_code-is e)) f h
 
-  expr_placed : (ops : List OpCode) (e : Expr) (at : ℕ) → HasAt ops at (expr_code p names e) → Evaluates p names ops at e (at + length (expr_code p names e))
+  pub expr_placed : (ops : List OpCode) (e : Expr) (at : ℕ) → HasAt ops at (expr_code p names e) → Evaluates p names ops at e (at + length (expr_code p names e))
   unfolding Placed
   expr_placed ops e at h = below_placed ops (suc (size e)) e (omega arith) at h
 
-  all_placed : (ops : List OpCode) (es : List Expr) (at : ℕ) → HasAt ops at (all_code p names es) → EvaluatesAll p names ops at es (at + length (all_code p names es))
+  pub all_placed : (ops : List OpCode) (es : List Expr) (at : ℕ) → HasAt ops at (all_code p names es) → EvaluatesAll p names ops at es (at + length (all_code p names es))
   all_placed ops [] at h = let e : at ≡ at + 0 = omega arith in subst (λ n. EvaluatesAll p names ops at [] n) e no_args
   all_placed ops (e ∷ es) at h =
       let c = expr_code p names e in

@@ -12,7 +12,7 @@ mod Served
 pub mod Sound
 pub mod Starting
 mod Staying
-mod Typed
-mod Variables
-mod Visible
+pub mod Typed
+pub mod Variables
+pub mod Visible
 pub mod Weights

@@ -47,7 +47,7 @@ is_of_some t (Some u) e = ap (λ x. Some x) (is_of_same t u e)
 abbrev Tells : Value → Option ValType → Type 0
 Tells x a = (t : ValType) → a ≡ Some t → type_of x ≡ t
 
-where_known : (b : Bool) (t u : ValType) → where_of b t ≡ Some u → (b ≡ true) × (t ≡ u)
+pub where_known : (b : Bool) (t u : ValType) → where_of b t ≡ Some u → (b ≡ true) × (t ≡ u)
 where_known true t u e = (refl, cc)
 where_known false t u e = cc
 
@@ -96,7 +96,7 @@ sets op t f (v.Bool b) y e g = cc
 sets op t f (v.Node n) y e g = cc
 sets op t f (v.Int s) y e g = cc
 
-both_known : (p q : ValType) (t u : ValType) (a b : Option ValType) → where_of (is_of p a && is_of q b) t ≡ Some u → (a ≡ Some p) × (b ≡ Some q) × (t ≡ u)
+pub both_known : (p q : ValType) (t u : ValType) (a b : Option ValType) → where_of (is_of p a && is_of q b) t ≡ Some u → (a ≡ Some p) × (b ≡ Some q) × (t ≡ u)
 both_known p q t u a b e = by_tests (is_of p a) (is_of q b) refl refl (where_known _ t u e)
   where
     by_tests : (m n : Bool) → is_of p a ≡ m → is_of q b ≡ n → (m && n ≡ true) × (t ≡ u) → (a ≡ Some p) × (b ≡ Some q) × (t ≡ u)
@@ -120,7 +120,7 @@ two_typed Has x y a b f g t e = let k = both_known ty.Set ty.Node ty.Bool t a b 
 two_typed With x y a b f g t e = let k = both_known ty.Set ty.Node ty.Set t a b e in sets With ty.Set (λ m n. refl) x y (f _ k.0) (g _ k.1) ∙ k.2
 two_typed Without x y a b f g t e = let k = both_known ty.Set ty.Node ty.Set t a b e in sets Without ty.Set (λ m n. refl) x y (f _ k.0) (g _ k.1) ∙ k.2
 
-one_known : (p t u : ValType) (a : Option ValType) → where_of (is_of p a) t ≡ Some u → (a ≡ Some p) × (t ≡ u)
+pub one_known : (p t u : ValType) (a : Option ValType) → where_of (is_of p a) t ≡ Some u → (a ≡ Some p) × (t ≡ u)
 one_known p t u a e = let k = where_known (is_of p a) t u e in (is_of_some p a k.0, k.1)
 
 -- ---- expressions

@@ -77,7 +77,7 @@ agree_of (b ∷ bs) (w ∷ vs) e f =
 abbrev pub inner : Scope → List Variable
 inner c = map of_param c.state.params ++ (typed c.handler.args (args_of (taken_message c.protocol c.handler.on)) ++ locals_in c)
 
-params_named : (ps : List Param) → map name_in (map of_param ps) ≡ map (λ a. a.name) ps
+pub params_named : (ps : List Param) → map name_in (map of_param ps) ≡ map (λ a. a.name) ps
 params_named [] = refl
 params_named (a ∷ ps) = ap (λ ns. a.name ∷ ns) (params_named ps)
 
@@ -108,7 +108,7 @@ map_twice : {X Y Z : Type 0} (f : X → Y) (g : Y → Z) (xs : List X) → map g
 map_twice f g [] = refl
 map_twice f g (x ∷ xs) = ap (λ zs. g (f x) ∷ zs) (map_twice f g xs)
 
-inner_named : (c : Scope) → map name_in (inner c) ≡ map (λ a. a.name) c.state.params ++ (c.handler.args ++ map (λ a. a.name) c.handler.locals)
+pub inner_named : (c : Scope) → map name_in (inner c) ≡ map (λ a. a.name) c.state.params ++ (c.handler.args ++ map (λ a. a.name) c.handler.locals)
 inner_named c =
     let ts = args_of (taken_message c.protocol c.handler.on) in
     map_both name_in (map of_param c.state.params) _
@@ -116,7 +116,7 @@ inner_named c =
     ∙ ap (λ ns. map (λ a. a.name) c.state.params ++ ns) (map_both name_in (typed c.handler.args ts) (locals_in c)
     ∙ ap (λ ns. ns ++ map name_in (locals_in c)) (args_named c.handler.args ts) ∙ ap (λ ns. c.handler.args ++ ns) (params_named c.handler.locals))
 
-inner_typed : (c : Scope) → length c.handler.args ≡ length (args_of (taken_message c.protocol c.handler.on)) →
+pub inner_typed : (c : Scope) → length c.handler.args ≡ length (args_of (taken_message c.protocol c.handler.on)) →
     map (λ (u : Variable). u.ty) (inner c) ≡ map (λ t. Some t) (types_of c.state.params ++ (args_of (taken_message c.protocol c.handler.on) ++ types_of c.handler.locals))
 inner_typed c e =
     let T : Variable → Option ValType = λ u. u.ty in
@@ -180,7 +180,7 @@ past_sender c vars n d free =
 
 -- ---- infos
 
-info_found : (ps : List Param) (n : Name) (t : ValType) → type_among (map of_param ps) n ≡ Some t → (a : Param) × (find (λ (i : Param). bytes_eq i.name n) ps ≡ Some a) × (a.ty ≡ t)
+pub info_found : (ps : List Param) (n : Name) (t : ValType) → type_among (map of_param ps) n ≡ Some t → (a : Param) × (find (λ (i : Param). bytes_eq i.name n) ps ≡ Some a) × (a.ty ≡ t)
 info_found [] n t e = cc
 info_found (a ∷ ps) n t e = by_test (bytes_eq a.name n) e (info_found ps n t)
   where
@@ -206,7 +206,7 @@ info_typed p infos n t e f =
 
 -- ---- where a name is found
 
-typed_among : (vs : List Variable) (n : Name) (t : ValType) → type_among vs n ≡ Some t → is_among vs n ≡ true
+pub typed_among : (vs : List Variable) (n : Name) (t : ValType) → type_among vs n ≡ Some t → is_among vs n ≡ true
 typed_among vs n t e = by_found (find (λ (u : Variable). bytes_eq u.name n) vs) e
   where
     by_found : (o : Option Variable) → option_and_then (λ u. u.ty) o ≡ Some t → is_some o ≡ true
@@ -235,7 +235,7 @@ find_left : (us vs : List Variable) (n : Name) (u : Variable) → find (λ (w : 
 find_left us vs n u e = find-append (λ (w : Variable). bytes_eq w.name n) us vs ∙ ap (λ o. option_or o (find (λ (w : Variable). bytes_eq w.name n) vs)) e
 
 -- in the front, or else behind
-typed_parts : (us vs : List Variable) (n : Name) (t : ValType) → type_among (us ++ vs) n ≡ Some t → (type_among us n ≡ Some t) ⊎ ((is_among us n ≡ false) × (type_among vs n ≡ Some t))
+pub typed_parts : (us vs : List Variable) (n : Name) (t : ValType) → type_among (us ++ vs) n ≡ Some t → (type_among us n ≡ Some t) ⊎ ((is_among us n ≡ false) × (type_among vs n ≡ Some t))
 typed_parts us vs n t e = by_found (find (λ (u : Variable). bytes_eq u.name n) us) refl
   where
     by_found : (o : Option Variable) → find (λ (u : Variable). bytes_eq u.name n) us ≡ o → (type_among us n ≡ Some t) ⊎ ((is_among us n ≡ false) × (type_among vs n ≡ Some t))

@@ -54,7 +54,8 @@ fn info(p: &Protocol, here: &Here, name: &[u8]) -> Value
     }
 }
 
-fn not(a: Value) -> Value
+/// The opposite of a truth value.
+pub fn not(a: Value) -> Value
     ensures { result ≡ not_of a }
 {
     match a {
@@ -63,7 +64,8 @@ fn not(a: Value) -> Value
     }
 }
 
-fn one(a: Value) -> Value
+/// The set of one node.
+pub fn one(a: Value) -> Value
     ensures { result ≡ one_of a }
 {
     match a {
@@ -72,7 +74,8 @@ fn one(a: Value) -> Value
     }
 }
 
-fn count(a: Value) -> Value
+/// How many members a set has.
+pub fn count(a: Value) -> Value
     ensures { result ≡ count_of a }
 {
     match a {
@@ -81,7 +84,8 @@ fn count(a: Value) -> Value
     }
 }
 
-fn two(op: Op, a: Value, b: Value) -> Value
+/// The value of an operator at two values.
+pub fn two(op: Op, a: Value, b: Value) -> Value
     ensures { result ≡ two_of op a b }
 {
     match op {

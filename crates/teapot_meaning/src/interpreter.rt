@@ -176,7 +176,8 @@ fn locals(alloc: Global, params: &[Param]) -> Result<Listed<Bound>, Memory>
     Ok(vars)
 }
 
-fn zero(ty: ValType) -> Value
+/// The value that a variable of a type begins with.
+pub fn zero(ty: ValType) -> Value
     ensures { result ≡ zero_of ty }
 {
     match ty {

@@ -18,6 +18,8 @@ mod state;
 mod step;
 
 pub use errors::{error_names, error_number};
-pub use interpreter::{is_served, run, run_in};
+pub use eval::{count, not, one, two};
+pub use interpreter::{is_served, run, run_in, zero};
 pub use laws::{fitting_blocks_stay_fit, one_end, one_meaning, same_without_lines};
 pub use state::{Bound, Cont, Ended, Here, Kept, Next, Out, Running, StateVal};
+pub use step::{free, node, payload, set_of};

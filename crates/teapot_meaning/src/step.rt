@@ -305,8 +305,9 @@ fn send(
     Ok(r)
 }
 
+/// The data of a message of this number: the words, where it carries them.
 #[tactic(auto, unfolding(crate::specs::Steps::payload_of))]
-fn payload(p: &Protocol, number: u8, words: &Data) -> Option<Data>
+pub fn payload(p: &Protocol, number: u8, words: &Data) -> Option<Data>
     ensures { result ≡ payload_of (slice_get p.now.messages number) words.now }
 {
     match p.messages.get(usize::from(number)) {
@@ -315,7 +316,8 @@ fn payload(p: &Protocol, number: u8, words: &Data) -> Option<Data>
     }
 }
 
-fn node(value: Value) -> NodeId
+/// The node, 0 where there is none.
+pub fn node(value: Value) -> NodeId
     ensures { result ≡ node_of value }
 {
     match value {
@@ -324,7 +326,8 @@ fn node(value: Value) -> NodeId
     }
 }
 
-fn set_of(value: Value) -> NodeSet
+/// The set, empty where there is none.
+pub fn set_of(value: Value) -> NodeSet
     ensures { result ≡ set_of value }
 {
     match value {
@@ -448,7 +451,8 @@ fn set_words(mut r: Running, words: Data) -> Running
     r
 }
 
-fn free(kept: Kept) -> Kept
+/// What becomes of a message when the block's deferred messages are eligible.
+pub fn free(kept: Kept) -> Kept
     ensures { result ≡ freed_kept kept }
 {
     match kept {

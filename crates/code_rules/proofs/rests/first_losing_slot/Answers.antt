@@ -1,0 +1,18 @@
+use Rattle.std.proofs.Common.{◌+◌, arith, subst, sym}
+use Rattle.code_rules.specs.Least.{IsLeast}
+use Rattle.code_rules.specs.Serving.{LosesAt}
+use Rattle.code_rules.proofs.Doorways.{RestBefore, rest_all, rest_more}
+use Rattle.code_rules.proofs.RestLemmas.{losing_here}
+use Rattle.code_rules.proofs.rests.first_losing_slot.Goals as goal
+
+pub loop-number-preserved : goal.loop-number-preserved
+loop-number-preserved c =
+    let code = c.args.code.now in
+    let slot = c.args.slot in
+    subst (λ o. IsLeast (RestBefore code (λ number rest. LosesAt code rest slot) (c.loop-number.number + 1)) o) (sym c.lesser-least.ensures)
+    (rest_more code (λ number rest. LosesAt code rest slot) c.loop-number.number c.rest_at-rest.result c.loop-number.least c.place_unless.result
+    c.rest_at-rest.ensures c.loop-number.invariant
+    (losing_here code c.args.table.now slot c.loop-number.number c.rest_at-rest.result c.keeps-kept.result c.place_unless.result c.requires.exact c.keeps-kept.ensures c.place_unless.ensures))
+
+pub returns : goal.returns
+returns c = rest_all c.args.code.now (λ number rest. LosesAt c.args.code.now rest c.args.slot) c.loop-number.number c.loop-number.least (omega (arith, c.len-number-end.ensures)) c.loop-number.invariant
