@@ -1,0 +1,10 @@
+mod Acting
+mod Chaining
+mod Entering
+mod Going
+mod Members
+mod Saving
+mod Sent
+mod Stacks
+mod Stopping
+mod Winding

@@ -1,0 +1,5 @@
+use Rattle.handler_vm.proofs.Entering.{few_locals}
+use Rattle.handler_vm.proofs.machine.enter.Goals as goal
+
+pub slots_at-requires-clause-locals : goal.slots_at-requires-clause-locals
+slots_at-requires-clause-locals c = few_locals c.args.p.now c.args.door.now c.protocol.ensures.accepted

@@ -1,0 +1,82 @@
+ghost use Rattle.std.specs.Prelude.{◌≡◌, ◌+◌, ◌^◌, ◌<◌, length, IfNone, IfSome, OnSome, slice_get};
+ghost use Rattle.handler_code.specs.Machine.{Next, Runs, Stop, Stopped, move_of};
+ghost use Rattle.handler_vm.specs.Chains.{KeepsOthers, KeepsOthersFrom, Spares};
+ghost use Rattle.handler_vm.specs.Inside.{FewArgs, IsDeep, IsSound, IsStop, SameBlock, StaysUnsent, WillStop, machine_with};
+
+use crate::around::Around;
+use crate::running::Running;
+use cont_store::Conts;
+use handler_code::{Code, OpCode};
+use teapot_tree::Protocol;
+use tw_base::End;
+
+fn op_at(code: &Code, at: usize) -> Option<OpCode>
+    ensures value { result ≡ slice_get code.now.ops at }
+    ensures small { IfSome result (λ op. at + 1 < 2 ^ 64) }
+{
+    if at < code.ops.len() {
+        code.ops.get(at).copied()
+    } else {
+        None
+    }
+}
+
+impl Running {
+    /// The op at the run's place. Tells how the run ends, where it does.
+    fn advance(
+        &mut self,
+        code: &Code,
+        p: &Protocol,
+        conts: &mut Conts,
+        around: &mut Around,
+    ) -> Option<End>
+        requires few_args { FewArgs p.now }
+        requires sound { IsSound p.now self.old conts.old }
+        requires deep { IsDeep p.now code.now self.old }
+        requires stops { WillStop p.now code.now around.old.room (machine_with p.now self.old around.old conts.old) }
+        ensures on { IfNone result (move_of p.now code.now (machine_with p.now self.old around.old conts.old)
+            ≡ Next (machine_with p.now self.new around.new conts.new)) }
+        ensures sound { IfNone result (IsSound p.now self.new conts.new) }
+        ensures spares { IfNone result (Spares conts.old conts.new self.old.cont self.new.cont) }
+        ensures over { IfSome result (λ end. (e : Stopped) × (move_of p.now code.now (machine_with p.now self.old around.old conts.old) ≡ Stop e)
+            × IsStop p.now self.new around.new.sent conts.new end e) }
+        ensures others { OnSome result (KeepsOthersFrom (length self.old.words) conts.old conts.new self.old.cont self.new.cont) }
+        ensures unsent { StaysUnsent p.now self.old around.old around.new }
+        ensures room { around.new.room ≡ around.old.room }
+        ensures block { SameBlock p.now self.old self.new }
+        ensures words { length self.new.words ≡ length self.old.words }
+    {
+        match op_at(code, self.at) {
+            Some(op) => self.step(code, p, conts, around, op),
+            None => Some(End::Fine),
+        }
+    }
+
+    /// Runs ops until one ends the run.
+    pub(crate) fn go(
+        &mut self,
+        code: &Code,
+        p: &Protocol,
+        conts: &mut Conts,
+        around: &mut Around,
+    ) -> End
+        requires few_args { FewArgs p.now }
+        requires sound { IsSound p.now self.old conts.old }
+        requires deep { IsDeep p.now code.now self.old }
+        requires stops { WillStop p.now code.now around.old.room (machine_with p.now self.old around.old conts.old) }
+        ensures stop { (e : Stopped) × Runs p.now code.now (machine_with p.now self.old around.old conts.old) e
+            × IsStop p.now self.new around.new.sent conts.new result e }
+        ensures others { KeepsOthers conts.old conts.new self.old.cont self.new.cont }
+        ensures unsent { StaysUnsent p.now self.old around.old around.new }
+        ensures block { SameBlock p.now self.old self.new }
+        ensures words { length self.new.words ≡ length self.old.words }
+        ensures room { around.new.room ≡ around.old.room }
+    {
+        'ops: loop {
+            match self.advance(code, p, conts, around) {
+                Some(end) => return end,
+                None => continue,
+            }
+        }
+    }
+}

@@ -1,0 +1,163 @@
+ghost use Rattle.std.specs.Prelude.{◌≡◌, ◌<◌, ◌≤◌, length, Some};
+ghost use Rattle.block_tags.specs.Copies.{block_words, tag_of};
+ghost use Rattle.handler_code.specs.Doors.{door_for, entered, filled};
+ghost use Rattle.handler_code.specs.Machine.{Runs, Stopped, state_arity};
+ghost use Rattle.handler_vm.specs.Chains.{IsChain, IsFull, KeepsOthers, saved_from};
+ghost use Rattle.handler_vm.specs.Inside.{begun};
+ghost use Rattle.handler_vm.specs.Leaves.{Leaves, Stops, StopsAt, kept_of};
+ghost use Rattle.handler_vm.specs.Room.{HasRoom};
+ghost use Rattle.handler_vm.specs.Sending.{IsReady};
+
+use crate::around::Around;
+use crate::cell::{Cell, Ran};
+use crate::doors::door_for;
+use crate::enter::slots_at;
+use crate::running::Running;
+use crate::values::{Args, Operands};
+use crate::work::state_arity;
+use block_tags::Blocks;
+use cont_store::Conts;
+use handler_code::{Code, Door, stops_once};
+use teapot_meaning::Kept;
+use teapot_tree::Checked;
+use tw_base::{End, Message, NodeId, Value};
+
+fn copied(infos: &[Value; 8]) -> [Value; 8]
+    ensures { result ≡ infos.now }
+{
+    let mut places = [Value::Int(0); 8];
+    places.copy_from_slice(infos);
+    places
+}
+
+/// The run with which a message enters the code at a door.
+fn enter(
+    p: &Checked,
+    door: &Door,
+    cell: &Cell,
+    blocks: &Blocks,
+    me: NodeId,
+    home: NodeId,
+    m: &Message,
+) -> Running
+    requires few { door.now.slots ≤ 21 }
+    requires block { m.now.block < blocks.now.shape.blocks }
+    ensures run { result ≡ begun p.now door.now me home (tag_of blocks.now m.now.block) (block_words blocks.now m.now.block) cell.now m.now }
+    ensures words { length (block_words blocks.now m.now.block) ≡ blocks.now.shape.words }
+    ensures places { length cell.now.args ≡ 4 }
+{
+    let args = Args::first(&cell.args, state_arity(p.protocol(), cell.state));
+    Running {
+        at: door.at as usize,
+        slots: slots_at(p, door, &args, m),
+        stack: Operands::new(),
+        came: m.payload,
+        me,
+        home,
+        block: m.block,
+        infos: copied(&cell.infos),
+        tag: blocks.tag(m.block),
+        words: blocks.words(m.block),
+        kept: Kept::No,
+        freed: false,
+        woke: false,
+        state: cell.state,
+        args,
+        cont: cell.cont,
+        ops: 0,
+        records: 0,
+    }
+}
+
+/// Keeps what a run left of its cell.
+fn leave(r: &Running, cell: &mut Cell, end: End) -> Ran
+    ensures result { result ≡ record { kept = r.now.kept; freed = r.now.freed; woke = r.now.woke; end = end; ops = r.now.ops; records = r.now.records } }
+    ensures cell { cell.new ≡ record { state = r.now.state; args = filled 4 r.now.args; cont = r.now.cont; infos = r.now.infos } }
+{
+    cell.state = r.state;
+    cell.args = r.args.places();
+    cell.cont = r.cont;
+    cell.infos = copied(&r.infos);
+    Ran {
+        kept: r.kept,
+        freed: r.freed,
+        woke: r.woke,
+        end,
+        ops: r.ops,
+        records: r.records,
+    }
+}
+
+/// Runs the code from a door on.
+fn run_at(
+    code: &Code,
+    p: &Checked,
+    door: &Door,
+    cell: &mut Cell,
+    blocks: &mut Blocks,
+    conts: &mut Conts,
+    me: NodeId,
+    home: NodeId,
+    m: &Message,
+    around: &mut Around,
+) -> Ran
+    requires is_door { door_for code.now cell.old.state m.now.kind ≡ Some door.now }
+    requires room { HasRoom p.now code.now }
+    requires stops { Stops p.now code.now me home cell.old blocks.old conts.old m.now }
+    requires chain { IsChain blocks.old.shape.words conts.old cell.old.cont }
+    requires spare { 1 ≤ conts.old.spare }
+    requires ready { IsReady around.old }
+    requires block { m.now.block < blocks.old.shape.blocks }
+    requires full { IsFull blocks.old.shape.words m.now.payload }
+    ensures leaves { (e : Stopped)
+        × Runs p.now code.now (entered p.now door.now me home m.now.block (tag_of blocks.old m.now.block) (block_words blocks.old m.now.block) (kept_of p.now cell.old) (saved_from p.now conts.old cell.old.cont) m.now) e
+        × Leaves p.now me m.now cell.old cell.new blocks.old blocks.new conts.new around.new.sent result e }
+    ensures chain { IsChain blocks.old.shape.words conts.new cell.new.cont }
+    ensures others { KeepsOthers conts.old conts.new cell.old.cont cell.new.cont }
+    ensures room { around.new.room ≡ around.old.room }
+{
+    around.clear();
+    let mut r = enter(p, door, cell, blocks, me, home, m);
+    let end = r.go(code, p.protocol(), conts, around);
+    blocks.set_tag(m.block, r.tag);
+    blocks.install(m.block, r.words);
+    leave(&r, cell, end)
+}
+
+/// Runs the code of a protocol on a message for a block, from the door that the message's kind has in the block's state,
+/// to its end. It takes no memory.
+///
+/// The cell, the block, the chain of records that the cell names and the sends are then those of the stop that the machine
+/// of ops comes to.
+pub fn run(
+    code: &Code,
+    p: &Checked,
+    cell: &mut Cell,
+    blocks: &mut Blocks,
+    conts: &mut Conts,
+    me: NodeId,
+    home: NodeId,
+    m: &Message,
+    around: &mut Around,
+) -> Ran
+    requires room { HasRoom p.now code.now }
+    requires stops { Stops p.now code.now me home cell.old blocks.old conts.old m.now }
+    requires chain { IsChain blocks.old.shape.words conts.old cell.old.cont }
+    requires spare { 1 ≤ conts.old.spare }
+    requires ready { IsReady around.old }
+    requires block { m.now.block < blocks.old.shape.blocks }
+    requires full { IsFull blocks.old.shape.words m.now.payload }
+
+    ensures leaves { (e : Stopped) → StopsAt p.now code.now me home cell.old blocks.old conts.old m.now e → Leaves p.now me m.now cell.old cell.new blocks.old blocks.new conts.new around.new.sent result e }
+
+    // The chain is whole again, and all other records stay.
+    ensures chain { IsChain blocks.old.shape.words conts.new cell.new.cont }
+    ensures others { KeepsOthers conts.old conts.new cell.old.cont cell.new.cont }
+    ensures room { around.new.room ≡ around.old.room }
+{
+    stops_once();
+    match door_for(code, cell.state, m.kind) {
+        Some(door) => run_at(code, p, &door, cell, blocks, conts, me, home, m, around),
+        None => unreachable!(),
+    }
+}

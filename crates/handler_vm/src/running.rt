@@ -1,0 +1,133 @@
+ghost use Rattle.std.specs.Prelude.{◌≡◌, ◌∷◌, ◌+◌, ◌-◌, ◌^◌, ◌<◌, ◌≤◌, drop, length, reverse, slice_set, take, unwrap_or, true};
+ghost use Rattle.teapot_meaning.specs.Steps.{freed_kept};
+ghost use Rattle.handler_code.specs.Machine.{below, landing, top, value_at};
+
+use crate::values::{Args, Operands, Slots};
+use cont_store::RecordKey;
+use teapot_meaning::{Kept, free};
+use teapot_tree::Protocol;
+use tw_base::{BlockId, Data, NodeId, Tag, Value};
+
+/// A run under way: what the machine of ops has, but for its sends and its records, of which it has the newest's key.
+#[derive(Drop)]
+pub(crate) struct Running {
+    pub at: usize,
+    pub slots: Slots,
+    pub stack: Operands,
+    pub came: Option<Data>,
+    pub me: NodeId,
+    pub home: NodeId,
+    pub block: BlockId,
+    pub infos: [Value; 8],
+    pub tag: Tag,
+    pub words: Data,
+    pub kept: Kept,
+    pub freed: bool,
+    pub woke: bool,
+    pub state: u8,
+    pub args: Args,
+    pub cont: Option<RecordKey>,
+    pub ops: u64,
+    pub records: u8,
+}
+
+impl Running {
+    /// Counts an op, which the next one follows.
+    pub(crate) fn count(&mut self)
+        requires place { self.old.at + 1 < 2 ^ 64 }
+        requires ops { self.old.ops + 1 < 2 ^ 64 }
+        ensures { self.new ≡ record self.old { at = self.old.at + 1; ops = self.old.ops + 1 } }
+    {
+        self.at += 1;
+        self.ops += 1;
+    }
+
+    pub(crate) fn push(&mut self, value: Value)
+        requires { length self.old.stack < 24 }
+        ensures { self.new ≡ record self.old { stack = value ∷ self.old.stack } }
+    {
+        self.stack.push(value);
+    }
+
+    pub(crate) fn pop(&mut self) -> Value
+        ensures value { result ≡ top self.old.stack }
+        ensures rest { self.new ≡ record self.old { stack = below self.old.stack } }
+        ensures len { length self.new.stack ≡ length self.old.stack - 1 }
+    {
+        self.stack.pop()
+    }
+
+    pub(crate) fn take(&mut self, count: usize) -> Args
+        requires { count ≤ 4 }
+        ensures args { result ≡ reverse (take count self.old.stack) }
+        ensures rest { self.new ≡ record self.old { stack = drop count self.old.stack } }
+    {
+        self.stack.take(count)
+    }
+
+    pub(crate) fn info(&self, p: &Protocol, k: u8) -> Value
+        ensures { result ≡ value_at (take (length p.now.infos) self.now.infos) k }
+    {
+        let k = usize::from(k);
+        let infos = &self.infos[..];
+        if k < p.infos.len() && k < infos.len() {
+            infos[k]
+        } else {
+            Value::Int(0)
+        }
+    }
+
+    /// The value on the stack becomes that of a slot.
+    pub(crate) fn put(&mut self, k: u8)
+        ensures { self.new ≡ record self.old { slots = slice_set self.old.slots k (top self.old.stack); stack = below self.old.stack } }
+    {
+        let value = self.stack.pop();
+        self.slots.set(k, value);
+    }
+
+    /// The value on the stack becomes that of an info.
+    pub(crate) fn put_info(&mut self, p: &Protocol, k: u8)
+        ensures stack { self.new ≡ record self.old { infos = self.new.infos; stack = below self.old.stack } }
+        ensures infos { take (length p.now.infos) self.new.infos ≡ slice_set (take (length p.now.infos) self.old.infos) k (top self.old.stack) }
+        ensures others { drop (length p.now.infos) self.new.infos ≡ drop (length p.now.infos) self.old.infos }
+    {
+        let value = self.stack.pop();
+        let k = usize::from(k);
+        if k < p.infos.len() && k < 8 {
+            self.infos[k] = value;
+        }
+    }
+
+    pub(crate) fn jump(&mut self, to: u32)
+        ensures { self.new ≡ record self.old { at = to } }
+    {
+        self.at = to as usize;
+    }
+
+    /// Jumps unless True is on the stack.
+    pub(crate) fn jump_if_not(&mut self, to: u32)
+        ensures { self.new ≡ record self.old { at = landing (top self.old.stack) self.old.at to; stack = below self.old.stack } }
+    {
+        match self.stack.pop() {
+            Value::Bool(true) => {}
+            _ => self.at = to as usize,
+        }
+    }
+
+    /// The words of the data that came, if any did.
+    pub(crate) fn install(&mut self)
+        ensures { self.new ≡ record self.old { words = unwrap_or self.old.came self.old.words } }
+    {
+        if let Some(words) = self.came {
+            self.words = words;
+        }
+    }
+
+    /// The block's deferred messages are eligible.
+    pub(crate) fn free(&mut self)
+        ensures { self.new ≡ record self.old { freed = true; kept = freed_kept self.old.kept } }
+    {
+        self.freed = true;
+        self.kept = free(self.kept);
+    }
+}

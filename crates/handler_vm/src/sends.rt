@@ -1,0 +1,122 @@
+ghost use Rattle.std.specs.Prelude.{◌≡◌, [], ◌∷◌, ◌++◌, ◌+◌, ◌<◌, ◌≤◌, drop, length, map, reverse, slice_get, take};
+ghost use Rattle.teapot_meaning.specs.Depth.{nodes_in};
+ghost use Rattle.teapot_meaning.specs.Steps.{node_of, out_to, payload_of, set_of};
+ghost use Rattle.handler_code.specs.Machine.{below, message_arity, top};
+ghost use Rattle.handler_vm.specs.Inside.{FewArgs, StaysUnsent};
+ghost use Rattle.handler_vm.specs.Sending.{IsUnsent, chan_in, out_of};
+
+use crate::around::Around;
+use crate::running::Running;
+use crate::sets::node;
+use crate::values::Args;
+use teapot_meaning::{node as node_in, payload, set_of};
+use teapot_tree::Protocol;
+use tw_base::{Chan, Data, Kind, Message, NodeId, NodeSet};
+
+/// How many arguments a message has, 0 where it is not declared.
+fn message_arity(p: &Protocol, number: u8) -> usize
+    ensures { result ≡ message_arity (slice_get p.now.messages number) }
+{
+    match p.messages.get(usize::from(number)) {
+        Some(m) => m.args.len(),
+        None => 0,
+    }
+}
+
+fn chan(p: &Protocol, number: u8) -> Chan
+    ensures { result ≡ chan_in (slice_get p.now.messages number) }
+{
+    match p.messages.get(usize::from(number)) {
+        Some(m) => m.chan,
+        None => Chan::Zero,
+    }
+}
+
+impl Running {
+    /// A message of this node for this block, that is not on its wire yet.
+    fn message(
+        &self,
+        p: &Protocol,
+        to: NodeId,
+        number: u8,
+        args: &Args,
+        payload: &Option<Data>,
+    ) -> Message
+        ensures out { out_of result ≡ out_to number args.now payload.now to }
+        ensures unsent { IsUnsent p.now self.now.me self.now.block result }
+    {
+        let places = args.places();
+        Message {
+            kind: Kind::Named(number),
+            block: self.block,
+            from: self.me,
+            to,
+            chan: chan(p, number),
+            number: 0,
+            stamp: 0,
+            args: places,
+            arg_count: args.len(),
+            payload: *payload,
+        }
+    }
+
+    /// Sends to the node below the arguments on the stack.
+    pub(crate) fn send(&mut self, p: &Protocol, number: u8, around: &mut Around)
+        requires args { FewArgs p.now }
+        requires room { length around.old.sent < around.old.room }
+        ensures stack { let count = message_arity (slice_get p.now.messages number)
+            in self.new ≡ record self.old { stack = below (drop count self.old.stack) } }
+        ensures sent { let count = message_arity (slice_get p.now.messages number) in
+            let payload = payload_of (slice_get p.now.messages number) self.old.words
+            in map out_of around.new.sent ≡ map out_of around.old.sent ++ out_to number (reverse (take count self.old.stack)) payload (node_of (top (drop count self.old.stack))) ∷ [] }
+        ensures unsent { StaysUnsent p.now self.old around.old around.new }
+        ensures room { around.new.room ≡ around.old.room }
+    {
+        let args = self.take(message_arity(p, number));
+        let to = node_in(self.pop());
+        let payload = payload(p, number, &self.words);
+        around.push(self.message(p, to, number, &args, &payload));
+    }
+
+    /// Sends to each node of the set below the arguments on the stack.
+    pub(crate) fn send_all(&mut self, p: &Protocol, number: u8, around: &mut Around)
+        requires args { FewArgs p.now }
+        requires room { let count = message_arity (slice_get p.now.messages number)
+            in length around.old.sent + length (nodes_in (set_of (top (drop count self.old.stack)))) ≤ around.old.room }
+        ensures stack { let count = message_arity (slice_get p.now.messages number)
+            in self.new ≡ record self.old { stack = below (drop count self.old.stack) } }
+        ensures sent { let count = message_arity (slice_get p.now.messages number) in
+            let payload = payload_of (slice_get p.now.messages number) self.old.words
+            in map out_of around.new.sent ≡ map out_of around.old.sent ++ map (out_to number (reverse (take count self.old.stack)) payload) (nodes_in (set_of (top (drop count self.old.stack)))) }
+        ensures unsent { StaysUnsent p.now self.old around.old around.new }
+        ensures room { around.new.room ≡ around.old.room }
+    {
+        let args = self.take(message_arity(p, number));
+        let set = set_of(self.pop());
+        let payload = payload(p, number, &self.words);
+        self.send_each(p, set, number, &args, &payload, around);
+    }
+
+    /// Sends to each node of a set, in rising order.
+    fn send_each(
+        &self,
+        p: &Protocol,
+        set: NodeSet,
+        number: u8,
+        args: &Args,
+        payload: &Option<Data>,
+        around: &mut Around,
+    )
+        requires { length around.old.sent + length (nodes_in set) ≤ around.old.room }
+        ensures sent { map out_of around.new.sent ≡ map out_of around.old.sent ++ map (out_to number args.now payload.now) (nodes_in set) }
+        ensures unsent { StaysUnsent p.now self.now around.old around.new }
+        ensures room { around.new.room ≡ around.old.room }
+    {
+        for k in 0..8 {
+            let to = node(k);
+            if set.has(to) {
+                around.push(self.message(p, to, number, args, payload));
+            }
+        }
+    }
+}

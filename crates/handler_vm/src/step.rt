@@ -1,0 +1,102 @@
+ghost use Rattle.std.specs.Prelude.{◌≡◌, ◌+◌, ◌^◌, ◌<◌, ◌≤◌, List, length, IfNone, IfSome, OnSome, slice_get};
+ghost use Rattle.tw_base.specs.declared.message.Message.{Message};
+ghost use Rattle.handler_code.specs.Machine.{Next, Stop, Stopped, act, state_arity};
+ghost use Rattle.handler_vm.specs.Chains.{KeepsOthersFrom, Spares, saved_from};
+ghost use Rattle.handler_vm.specs.Inside.{FewArgs, IsSound, IsStop, OnNext, SameBlock, StaysUnsent, machine_of, machine_with};
+ghost use Rattle.handler_vm.specs.Room.{put_by, taken_by};
+
+use crate::around::Around;
+use crate::running::Running;
+use cont_store::Conts;
+use handler_code::{Code, OpCode};
+use teapot_tree::Protocol;
+use tw_base::End;
+
+impl Running {
+    /// Saves the run, unless the chain has eight records.
+    fn leave(&mut self, code: &Code, p: &Protocol, conts: &mut Conts, state: u8, rest: u32) -> End
+        requires few_args { FewArgs p.now }
+        requires place { self.old.at + 1 < 2 ^ 64 }
+        requires ops { self.old.ops + 1 < 2 ^ 64 }
+        requires sound { IsSound p.now self.old conts.old }
+        requires enough { state_arity (slice_get p.now.states state) ≤ length self.old.stack }
+        ensures stop { (sent : List Message) → let m = machine_of p.now self.old sent (saved_from p.now conts.old self.old.cont) in
+            (e : Stopped) × (act p.now code.now (OpCode.Suspend state rest) m ≡ Stop e) × IsStop p.now self.new sent conts.new result e }
+        ensures others { KeepsOthersFrom (length self.old.words) conts.old conts.new self.old.cont self.new.cont }
+        ensures block { SameBlock p.now self.old self.new }
+        ensures words { length self.new.words ≡ length self.old.words }
+    {
+        self.count();
+        if self.depth(conts) >= 8 {
+            return End::TooDeep;
+        }
+        self.suspend(code, p, conts, state, rest);
+        End::Fine
+    }
+
+    /// One op. Tells how the run ends, where it does.
+    pub(crate) fn step(
+        &mut self,
+        code: &Code,
+        p: &Protocol,
+        conts: &mut Conts,
+        around: &mut Around,
+        op: OpCode,
+    ) -> Option<End>
+        requires few_args { FewArgs p.now }
+        requires place { self.old.at + 1 < 2 ^ 64 }
+        requires ops { self.old.ops + 1 < 2 ^ 64 }
+        requires sound { IsSound p.now self.old conts.old }
+        requires most { length self.old.stack ≤ 24 }
+        requires enough { taken_by p.now op ≤ length self.old.stack }
+        requires fits { length self.old.stack + put_by op ≤ 24 + taken_by p.now op }
+        requires room { OnNext (λ n. length n.around.sends ≤ around.old.room) (act p.now code.now op (machine_with p.now self.old around.old conts.old)) }
+        ensures on { IfNone result (act p.now code.now op (machine_with p.now self.old around.old conts.old)
+            ≡ Next (machine_with p.now self.new around.new conts.new)) }
+        ensures sound { IfNone result (IsSound p.now self.new conts.new) }
+        ensures spares { IfNone result (Spares conts.old conts.new self.old.cont self.new.cont) }
+        ensures over { IfSome result (λ end. (e : Stopped) × (act p.now code.now op (machine_with p.now self.old around.old conts.old) ≡ Stop e)
+            × IsStop p.now self.new around.new.sent conts.new end e) }
+        ensures others { OnSome result (KeepsOthersFrom (length self.old.words) conts.old conts.new self.old.cont self.new.cont) }
+        ensures unsent { StaysUnsent p.now self.old around.old around.new }
+        ensures room { around.new.room ≡ around.old.room }
+        ensures block { SameBlock p.now self.old self.new }
+        ensures words { length self.new.words ≡ length self.old.words }
+    {
+        match op {
+            OpCode::Send(number) => {
+                self.count();
+                self.send(p, number, around);
+                None
+            }
+            OpCode::SendAll(number) => {
+                self.count();
+                self.send_all(p, number, around);
+                None
+            }
+            OpCode::Suspend(state, rest) => Some(self.leave(code, p, conts, state, rest)),
+            OpCode::Resume => {
+                self.count();
+                match self.cont {
+                    Some(key) => {
+                        self.resume(code, p, conts, key);
+                        None
+                    }
+                    None => Some(End::Fine),
+                }
+            }
+            OpCode::Fail(number) => {
+                self.count();
+                Some(End::Failed(number))
+            }
+            OpCode::Done => {
+                self.count();
+                Some(End::Fine)
+            }
+            _ => {
+                self.work(p, op);
+                None
+            }
+        }
+    }
+}
