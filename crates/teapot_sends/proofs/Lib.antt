@@ -1,0 +1,6 @@
+mod Bodies
+mod Few
+mod Kept
+mod Rests
+mod Soon
+mod Steps
