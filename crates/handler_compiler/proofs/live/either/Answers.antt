@@ -1,0 +1,5 @@
+use Rattle.handler_compiler.proofs.Bits.{has_bit-or}
+use Rattle.handler_compiler.proofs.live.either.Goals as goal
+
+pub returns : goal.returns
+returns c = λ k. has_bit-or c.args.a c.args.b k
