@@ -4,18 +4,25 @@ use Rattle.tw_base.specs.declared.entry.Entry.{Entry}
 use Rattle.tempest_input.specs.declared.error.InputError.{InputError}
 use Rattle.tempest_input.specs.declared.error.InputError.TheVariants.{Refused, Memory}
 use Rattle.tempest_words.specs.declared.request.Command.{Command}
-use Rattle.tempest_words.specs.declared.request.Command.TheVariants.{Check, Show, Serial}
+use Rattle.tempest_words.specs.declared.request.Command.TheVariants.{Check, Code as ForCode, Show, Serial}
 use Rattle.dsm_runs.specs.Schedules.{Settles}
 use Rattle.dsm_runs.specs.Setups.{Setup}
 use Rattle.dsm_runs.specs.Worlds.{World, start}
 use Rattle.journal.specs.declared.reports.Options.{Options}
-use Rattle.tempest_run.specs.Answering.{Answer, Answers, AnswersIn, TellsOfRun, report_answer}
+use Rattle.teapot_tree.specs.declared.protocol.Protocol.{Protocol}
+use Rattle.handler_code.specs.declared.code.Code.{Code}
+use Rattle.suspend_split.specs.Whole.{IsCode}
+use Rattle.tempest_run.specs.Answering.{Answer, Answers, AnswersIn, TellsOfCode, TellsOfRun, code_answer, report_answer}
 use Rattle.tempest_run.specs.Laws.{AnswerIsOne}
 use Rattle.tempest_run.specs.Inputs.{input_of}
 
 -- two runs of one schedule are one run
 abbrev pub RunsAreOne : Type 0
 RunsAreOne = (s : Setup) (stride t : ℕ) (g : World) (es fs : List Entry) (h k : World) → Settles s stride t g es h → Settles s stride t g fs k → (es ≡ fs) × (h ≡ k)
+
+-- a protocol has one code
+abbrev pub CodesAreOne : Type 0
+CodesAreOne = (p : Protocol) (a b : Code) → IsCode p a → IsCode p b → a ≡ b
 
 same_report : (s : Setup) (o : Options) (j k : List Entry) (g h : World) → j ≡ k → g ≡ h → report_answer s j g o ≡ report_answer s k h o
 same_report s o j k g h e f = ap (λ x. report_answer s x g o) e ∙ ap (λ x. report_answer s k x o) f
@@ -25,15 +32,19 @@ one_tale one s stride o a b x y =
     let same = one s stride 0 (start s) x.journal y.journal x.state y.state x.run.schedule y.run.schedule in
     x.tells ∙ same_report s o x.journal y.journal x.state y.state same.0 same.1 ∙ sym y.tells
 
-one_about : RunsAreOne → (command : Command) (o : Options) (s : Setup) (a b : Answer) → Answers command o s a → Answers command o s b → a ≡ b
-one_about one (Serial stride) o s a b x y = one_tale one s stride o a b x y
-one_about one Check o s a b x y = x ∙ sym y
-one_about one Show o s a b x y = x ∙ sym y
+one_text : CodesAreOne → (p : Protocol) (a b : Answer) → TellsOfCode p a → TellsOfCode p b → a ≡ b
+one_text one p a b x y = x.tells ∙ ap (λ code. code_answer p code) (one p x.code y.code x.is_code y.is_code) ∙ sym y.tells
 
-one_in : RunsAreOne → (command : Command) (o : Options) (r : Result Setup InputError) (a b : Answer) → AnswersIn command o r a → AnswersIn command o r b → a ≡ b
-one_in one command o (Ok s) a b x y = one_about one command o s a b x y
-one_in one command o (Err (Refused number reason)) a b x y = x ∙ sym y
-one_in one command o (Err Memory) a b x y = absurd x
+one_about : RunsAreOne → CodesAreOne → (command : Command) (o : Options) (s : Setup) (a b : Answer) → Answers command o s a → Answers command o s b → a ≡ b
+one_about one code (Serial stride) o s a b x y = one_tale one s stride o a b x y
+one_about one code Check o s a b x y = x ∙ sym y
+one_about one code ForCode o s a b x y = one_text code s.protocol a b x y
+one_about one code Show o s a b x y = x ∙ sym y
 
-pub one_answer : RunsAreOne → AnswerIsOne
-one_answer one asked text a b x y = one_in one asked.command _ (input_of text) a b x y
+one_in : RunsAreOne → CodesAreOne → (command : Command) (o : Options) (r : Result Setup InputError) (a b : Answer) → AnswersIn command o r a → AnswersIn command o r b → a ≡ b
+one_in one code command o (Ok s) a b x y = one_about one code command o s a b x y
+one_in one code command o (Err (Refused number reason)) a b x y = x ∙ sym y
+one_in one code command o (Err Memory) a b x y = absurd x
+
+pub one_answer : RunsAreOne → CodesAreOne → AnswerIsOne
+one_answer one code asked text a b x y = one_in one code asked.command _ (input_of text) a b x y

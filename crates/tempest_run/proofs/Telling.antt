@@ -14,8 +14,13 @@ use Rattle.journal.specs.Finals.{finals_of}
 use Rattle.journal.specs.Gathered.{words_of}
 use Rattle.journal.specs.History.{break_from, first_break}
 use Rattle.journal.specs.Reports.{report_of}
-use Rattle.tempest_run.specs.Answering.{Answer, report_answer, status_of}
+use Rattle.teapot_tree.specs.declared.protocol.Protocol.{Protocol}
+use Rattle.handler_code.specs.declared.code.Code.{Code}
+use Rattle.suspend_split.specs.Whole.{IsCode}
+use Rattle.code_text.specs.Texts.{text_of}
+use Rattle.tempest_run.specs.Answering.{Answer, TellsOfCode, report_answer, status_of}
 use Rattle.tempest_run.specs.declared.status.Status.{Status}
+use Rattle.tempest_run.specs.declared.status.Status.TheVariants.{Done}
 
 -- a run of at most eight nodes within the limits has few events
 few : (n budget count : ℕ) → n ≤ 8 → (4 * n + 4) * n * budget ≤ 1250000 → count ≤ n * (budget + (4 * n + 4) * n * budget) → count < 2 ^ 32
@@ -58,3 +63,7 @@ pub broken_is :
 broken_is s j j1 m sizes init programs b hb hm hs hi hp hj =
     hb ∙ ap (λ x. break_from x 0 j1) (hm ∙ ap (λ x. start_of x init programs) hs ∙ ap (λ x. start_of s.shape x programs) hi ∙ ap (λ x. start_of s.shape s.init x) hp)
     ∙ ap (λ x. break_from (start_of s.shape s.init s.programs) 0 x) hj
+
+-- what is made of the code of a protocol is its text
+pub coded : (p : Protocol) (code : Code) (text : List ℕ) → IsCode p code → text ≡ text_of p code → TellsOfCode p (record { status = Done; text = text })
+coded p code text is e = record { code = code; is_code = is; tells = ap (λ x. answer Done x) e }

@@ -13,6 +13,9 @@ use Rattle.tempest_words.specs.declared.request.Command.TheVariants as commands
 use Rattle.teapot_tree.specs.declared.protocol.Protocol.{Protocol}
 use Rattle.teapot_tree.specs.Parts.{handlers_of}
 use Rattle.teapot_print.specs.Text.{canon}
+use Rattle.handler_code.specs.declared.code.Code.{Code}
+use Rattle.suspend_split.specs.Whole.{IsCode}
+use Rattle.code_text.specs.Texts.{text_of}
 use Rattle.dsm_runs.specs.declared.outcome.Outcome.{Outcome}
 use Rattle.dsm_runs.specs.declared.outcome.Outcome.TheVariants as outcomes
 use Rattle.dsm_runs.specs.Schedules.{Settles}
@@ -106,6 +109,16 @@ check_answer p = record {
 abbrev pub show_answer : Protocol → Answer
 show_answer p = record { status = statuses.Done; text = canon p }
 
+-- the code of a protocol's handlers, as text
+abbrev pub code_answer : Protocol → Code → Answer
+code_answer p code = record { status = statuses.Done; text = text_of p code }
+
+-- the answer tells of the code of a protocol
+pub record TellsOfCode (p : Protocol) (a : Answer) : Type 0 where
+  pub code : Code
+  pub is_code : IsCode p code
+  pub tells : a ≡ code_answer p code
+
 -- ---- the answer
 
 -- a report has its journal where it is asked for, and no counts
@@ -116,6 +129,7 @@ options_of asked = record { journal = asked.journal; counts = false }
 abbrev pub Answers : Command → Options → Setup → Answer → Type 0
 Answers (commands.Serial stride) o s a = TellsOfRun s stride o a
 Answers commands.Check o s a = a ≡ check_answer s.protocol
+Answers commands.Code o s a = TellsOfCode s.protocol a
 Answers commands.Show o s a = a ≡ show_answer s.protocol
 
 -- the answer about what a text sets up, or its refusal

@@ -1,12 +1,14 @@
 ghost use Rattle.std.specs.Prelude.{◌≡◌, ◌+◌, ◌^◌, ◌<◌, length, IfOk};
 ghost use Rattle.std.specs.List.{list_all};
-ghost use Rattle.tempest_run.specs.Answering.{Answers, IsAnswer, IsAnswered, TellsOfRun, has_halted, options_of, refusal, show_answer, status_of, why_text};
+ghost use Rattle.tempest_run.specs.Answering.{Answers, IsAnswer, IsAnswered, TellsOfCode, TellsOfRun, has_halted, options_of, refusal, show_answer, status_of, why_text};
 
 use crate::accepted::check_answer;
 use crate::input::read_input;
 use crate::status::Status;
+use code_text::code_text;
 use dsm_model::{Global, settle};
 use dsm_runs::{Outcome, Setup, runs_are_short, schedules_are_one_run};
+use handler_compiler::split;
 use journal::{Final, Options, finals_of, first_break, history_is_told, report, words_of};
 use mini_asm::Flat;
 use std::alloc;
@@ -132,6 +134,19 @@ fn show_answer(alloc: alloc::Global, protocol: &Checked) -> Result<Answer, Memor
     })
 }
 
+// The text of the code of a protocol's handlers.
+fn code_answer(alloc: alloc::Global, protocol: &Checked) -> Result<Answer, Memory>
+    ensures value { IfOk result (λ a. TellsOfCode protocol.now (record { status = a.status; text = a.text.items })) }
+    ensures answered { IfOk result (λ a. IsAnswered a.status) }
+{
+    let code = split(alloc, protocol)?;
+    let text = code_text(alloc, protocol, &code)?;
+    Ok(Answer {
+        status: Status::Done,
+        text,
+    })
+}
+
 fn options_of(asked: Asked) -> Options
     ensures { result ≡ options_of asked }
 {
@@ -149,6 +164,7 @@ fn answer_about(alloc: alloc::Global, asked: Asked, setup: &Setup) -> Result<Ans
     match asked.command {
         Command::Serial(stride) => report_answer(alloc, setup, stride, options_of(asked)),
         Command::Check => check_answer(alloc, setup.protocol()),
+        Command::Code => code_answer(alloc, setup.protocol()),
         Command::Show => show_answer(alloc, setup.protocol()),
     }
 }

@@ -735,6 +735,48 @@ node 0 trapped BadAddress place 0 instructions 1 handlers 0
 event 0 stamp 1 node 0 trap BadAddress
 history agrees
 end
+%%
+code
+tempest 1
+nodes 2
+words 1
+blocks 1
+program 1
+ld r1 r0 0
+halt
+end
+protocol
+Protocol Deaf
+Message GET() 0
+HomeStart H ReadWrite
+CacheStart I Invalid
+State H{}
+Begin
+Default
+Begin
+End
+End
+State I{}
+Begin
+On RD_FAULT()
+Begin
+Send(home, GET)
+End
+Default
+Begin
+End
+End
+end
+=> Done
+handler H Default slots 1
+  0 Done
+handler I RD_FAULT slots 1
+  1 Home
+  2 Send GET
+  3 Done
+handler I Default slots 1
+  4 Done
+end
 ";
 
 fn status(name: &str) -> Result<Status, Fail> {

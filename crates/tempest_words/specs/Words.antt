@@ -35,7 +35,8 @@ two_words w n = if bytes_eq w (codes "serial") then option_map (λ k. commands.S
 abbrev pub one_word : List ℕ → Option Command
 one_word w =
     if bytes_eq w (codes "check") then Some commands.Check else
-    (if bytes_eq w (codes "show") then Some commands.Show else None)
+    (if bytes_eq w (codes "code") then Some commands.Code else
+    (if bytes_eq w (codes "show") then Some commands.Show else None))
 
 abbrev pub command_of : List (List ℕ) → Option Command
 command_of [] = None
@@ -62,6 +63,8 @@ options_fit before =
 abbrev pub with_options : Bool → Bool → Command → Option Asked
 with_options journal meaning commands.Check =
     if journal || meaning then None else Some (record { command = commands.Check; journal = false; meaning = false })
+with_options journal meaning commands.Code =
+    if journal || meaning then None else Some (record { command = commands.Code; journal = false; meaning = false })
 with_options journal meaning commands.Show =
     if journal || meaning then None else Some (record { command = commands.Show; journal = false; meaning = false })
 with_options journal meaning (commands.Serial stride) =

@@ -3,6 +3,8 @@
 pub enum Command {
     /// Check the protocol of the input.
     Check,
+    /// Write the code of the handlers of the input's protocol.
+    Code,
     /// Write the protocol of the input in its canonical spelling.
     Show,
     /// Run the input in the serial schedule of this stride.

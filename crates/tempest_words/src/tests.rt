@@ -12,6 +12,9 @@ serial 4294967296 => nothing
 serial -1 => nothing
 serial x => nothing
 check => check
+code => code
+code 0 => nothing
+code --journal => nothing
 show => show
 check 0 => nothing
 check --journal => nothing
@@ -60,6 +63,7 @@ fn shown(alloc: Global, asked: Option<Asked>) -> Result<String, Fail> {
     };
     let mut text = match asked.command {
         Command::Check => String::from_str(alloc, "check")?,
+        Command::Code => String::from_str(alloc, "code")?,
         Command::Show => String::from_str(alloc, "show")?,
         Command::Serial(stride) => format!(in alloc; "serial:{stride}")?,
     };

@@ -30,6 +30,8 @@ fn one_word(command: &str) -> Option<Command>
 {
     if command == "check" {
         Some(Command::Check)
+    } else if command == "code" {
+        Some(Command::Code)
     } else if command == "show" {
         Some(Command::Show)
     } else {
@@ -106,7 +108,7 @@ fn with_options(journal: bool, meaning: bool, command: Command) -> Option<Asked>
     ensures { result ≡ with_options journal meaning command }
 {
     match command {
-        Command::Check | Command::Show if journal || meaning => None,
+        Command::Check | Command::Code | Command::Show if journal || meaning => None,
         _ => Some(Asked {
             command,
             journal,
