@@ -10,11 +10,11 @@ use Rattle.handler_code.specs.declared.code.Door.{Door}
 use Rattle.handler_code.specs.declared.code.OpCode.{OpCode}
 use Rattle.handler_code.specs.declared.code.OpCode.TheVariants as op
 use Rattle.handler_code.specs.Live.{HasOp, LeadsTo}
-use Rattle.code_rules.specs.Jumps.{is_back_to, is_done, is_each_to, is_nested, is_not_entered, leads_well, loops_of}
-use Rattle.code_rules.specs.Parts.{end_of, op_at, part_of, place_or}
+use Rattle.code_walks.specs.Jumps.{is_back_to, is_done, is_each_to, is_nested, is_not_entered, leads_well, loops_of}
+use Rattle.code_walks.specs.Parts.{end_of, op_at, part_of, place_or}
 use Rattle.code_rules.specs.Rules.{KeepsRules}
 use Rattle.code_rules.specs.Safety.{HasDepths, depth_in, put_by}
-use Rattle.code_rules.specs.Stacks.{depth_after, depth_at, is_served, is_value, taken, target}
+use Rattle.code_walks.specs.Stacks.{depth_after, depth_at, is_served, is_value, taken, target}
 use Rattle.code_rules.specs.Structure.{begins}
 use Rattle.code_rules.proofs.Safely.{Empty, Fitting, InPart, at-rest-empty, done-at, door-in, end-le, enough, first-of, fitting, has-op, loop-end, op-is, rises-at, served-at, shallow-at, well-at, zero-by}
 
@@ -51,7 +51,7 @@ pub record Home (code : Code) (at : ℕ) : Type 0 where
   pub door : Door
   pub inside : InPart code number door at
 
-home : (p : Protocol) (code : Code) → Fitting p code → (at : ℕ) → at < length code.ops → Home code at
+pub home : (p : Protocol) (code : Code) → Fitting p code → (at : ℕ) → at < length code.ops → Home code at
 home p code f at lt =
     let x = found-in code.doors (length code.ops) at f.begin lt in
     record {

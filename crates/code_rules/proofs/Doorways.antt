@@ -6,10 +6,10 @@ use Rattle.std.proofs.lemmas.Option.{slice_get_within}
 use Rattle.handler_code.specs.declared.code.Code.{Code}
 use Rattle.handler_code.specs.declared.code.Door.{Door}
 use Rattle.handler_code.specs.declared.code.Rest.{Rest}
-use Rattle.code_rules.specs.declared.parts.Part.{Part}
-use Rattle.code_rules.specs.Least.{IsLeast, lesser}
-use Rattle.code_rules.specs.Parts.{AtOp, AtRest, Within, end_of, part_of}
-use Rattle.code_rules.proofs.Leasts.{least_more, same_least}
+use Rattle.code_walks.specs.declared.parts.Part.{Part}
+use Rattle.code_walks.specs.Least.{IsLeast, lesser}
+use Rattle.code_walks.specs.Parts.{AtOp, AtRest, Within, end_of, part_of}
+use Rattle.code_walks.proofs.Leasts.{least_more, same_least}
 
 -- ---- handlers
 

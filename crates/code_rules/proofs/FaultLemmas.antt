@@ -8,7 +8,7 @@ use Rattle.code_rules.specs.declared.fault.Fault.{Fault}
 use Rattle.code_rules.specs.declared.fault.Rule.{Rule}
 use Rattle.code_rules.specs.declared.fault.Rule.TheVariants.{Ranges, Jumps, Stack, Types, Ends, Rests, Live, Doors, Sets}
 use Rattle.code_rules.specs.Faults.{FirstBelow, fault, sooner}
-use Rattle.code_rules.specs.Least.{IsLeast}
+use Rattle.code_walks.specs.Least.{IsLeast}
 use Rattle.code_rules.specs.Rules.{Breaks, IsBroken, IsFirstFault, KeepsRules, number_of}
 use Rattle.code_rules.specs.Structure.{is_structured}
 use Rattle.code_rules.proofs.RuleLemmas.{few_rules, from_one}

@@ -1,13 +1,8 @@
 pub mod Belows
 pub mod Depthly
-pub mod Depths
 pub mod Doorways
 pub mod FaultLemmas
-pub mod Leasts
 pub mod LoopLemmas
 pub mod RestLemmas
 pub mod RuleLemmas
 pub mod Safely
-pub mod TableLemmas
-pub mod TypeLemmas
-pub mod Walking

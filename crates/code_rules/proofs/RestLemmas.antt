@@ -5,12 +5,12 @@ use Rattle.std.proofs.lemmas.Bool.{cases_lt}
 use Rattle.handler_code.specs.declared.code.Code.{Code}
 use Rattle.handler_code.specs.declared.code.Rest.{Rest}
 use Rattle.handler_code.specs.Machine.{is_live}
-use Rattle.code_rules.specs.Least.{IsLeast, lesser}
-use Rattle.code_rules.specs.Parts.{AtRest}
+use Rattle.code_walks.specs.Least.{IsLeast, lesser}
+use Rattle.code_walks.specs.Parts.{AtRest}
 use Rattle.code_rules.specs.Serving.{LosesAt, LosesSlot, is_placed, keeps}
-use Rattle.code_rules.specs.Table.{IsExact, is_marked}
+use Rattle.code_walks.specs.Table.{IsExact, is_marked}
 use Rattle.code_rules.proofs.Doorways.{ThisRest, this_some, this_none}
-use Rattle.code_rules.proofs.Leasts.{least_more}
+use Rattle.code_walks.proofs.Leasts.{least_more}
 
 -- a rest fails the test, or not
 by-test : (code : Code) (P : ℕ → Rest → Type 0) (n : ℕ) (r : Rest) (b : Bool) → (b ≡ true → P n r → ⊥) → (b ≡ false → P n r) → IsLeast (ThisRest code P n r) (if b then None else Some r.at)

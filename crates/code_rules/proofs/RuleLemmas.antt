@@ -5,9 +5,9 @@ use Rattle.handler_code.specs.declared.code.Code.{Code}
 use Rattle.teapot_tree.specs.declared.protocol.Protocol.{Protocol}
 use Rattle.code_rules.specs.declared.fault.Rule.{Rule}
 use Rattle.code_rules.specs.declared.fault.Rule.TheVariants.{Ranges, Jumps, Stack, Types, Ends, Rests, Live, Doors, Sets}
-use Rattle.code_rules.specs.declared.parts.Part.{Part}
-use Rattle.code_rules.specs.Least.{IsLeast}
-use Rattle.code_rules.specs.Parts.{AtOp, Within}
+use Rattle.code_walks.specs.declared.parts.Part.{Part}
+use Rattle.code_walks.specs.Least.{IsLeast}
+use Rattle.code_walks.specs.Parts.{AtOp, Within}
 use Rattle.code_rules.specs.Rules.{Breaks, number_of}
 use Rattle.code_rules.specs.Tests.{BreaksAt, is_broken}
 

@@ -19,14 +19,14 @@ use Rattle.handler_code.specs.Machine.{Machine, Next, Stop, Saved, Stopped, act,
 use Rattle.teapot_meaning.specs.Steps.{least_of, set_of}
 use Rattle.code_rules.specs.declared.fault.Rule.{Rule}
 use Rattle.code_rules.specs.declared.fault.Rule.TheVariants.{Ranges, Jumps, Stack, Ends, Rests}
-use Rattle.code_rules.specs.Jumps.{is_back_to, is_done, is_each_to, is_nested, is_not_entered, leads_well, loops_of}
-use Rattle.code_rules.specs.Parts.{end_of, op_at, part_of, place_or}
+use Rattle.code_walks.specs.Jumps.{is_back_to, is_done, is_each_to, is_nested, is_not_entered, leads_well, loops_of}
+use Rattle.code_walks.specs.Parts.{end_of, op_at, part_of, place_or}
 use Rattle.code_rules.specs.Rules.{Breaks, KeepsRules}
 use Rattle.code_rules.specs.Safety.{IsOnWalk, IsSafe, IsStart, Reaches, starts, goes}
 use Rattle.code_rules.specs.Serving.{is_behind, is_placed, suspends_to}
-use Rattle.code_rules.specs.Stacks.{depth_after, depth_at, is_served, is_value, taken, target}
+use Rattle.code_walks.specs.Stacks.{depth_after, depth_at, is_served, is_value, taken, target}
 use Rattle.code_rules.specs.Structure.{begins, is_door_of, is_rest_of, is_structured, rises_from}
-use Rattle.code_rules.proofs.Walking.{depth_more, depth_none}
+use Rattle.code_walks.proofs.Walking.{depth_more, depth_none}
 
 -- ---- what the rules say
 

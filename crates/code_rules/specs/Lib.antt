@@ -1,13 +1,7 @@
 pub mod Faults
-pub mod Jumps
-pub mod Kinds
-pub mod Least
-pub mod Parts
 pub mod Rules
 pub mod Safety
 pub mod Serving
 pub mod Sets
-pub mod Stacks
 pub mod Structure
-pub mod Table
 pub mod Tests

@@ -6,12 +6,12 @@ use Rattle.code_rules.specs.declared.fault.CodeFault.{CodeFault}
 use Rattle.code_rules.specs.declared.fault.CodeFault.TheVariants as fault
 use Rattle.code_rules.specs.declared.fault.Rule.{Rule}
 use Rattle.code_rules.specs.declared.fault.Rule.TheVariants.{Ranges, Jumps, Stack, Types, Ends, Rests, Live, Doors, Sets}
-use Rattle.code_rules.specs.Jumps.{ends_wrongly, is_out_of_range, leads_wrongly}
-use Rattle.code_rules.specs.Kinds.{breaks_types}
-use Rattle.code_rules.specs.Parts.{AtOp, AtRest}
+use Rattle.code_walks.specs.Jumps.{ends_wrongly, is_out_of_range, leads_wrongly}
+use Rattle.code_walks.specs.Kinds.{breaks_types}
+use Rattle.code_walks.specs.Parts.{AtOp, AtRest}
 use Rattle.code_rules.specs.Serving.{LosesSlot, is_placed, serves_all}
 use Rattle.code_rules.specs.Sets.{shares_set}
-use Rattle.code_rules.specs.Stacks.{BreaksStack}
+use Rattle.code_walks.specs.Stacks.{BreaksStack}
 use Rattle.code_rules.specs.Structure.{is_structured}
 
 -- the place at which code breaks the rule, where its doors and rests fit it

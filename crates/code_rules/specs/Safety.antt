@@ -7,8 +7,8 @@ use Rattle.handler_code.specs.declared.code.OpCode.{OpCode}
 use Rattle.handler_code.specs.declared.code.Rest.{Rest}
 use Rattle.handler_code.specs.Live.{HasOp, LeadsTo}
 use Rattle.handler_code.specs.Machine.{Machine, Next, move_of}
-use Rattle.code_rules.specs.Parts.{AtRest, end_of, op_at}
-use Rattle.code_rules.specs.Stacks.{depth_at, is_value, taken}
+use Rattle.code_walks.specs.Parts.{AtRest, end_of, op_at}
+use Rattle.code_walks.specs.Stacks.{depth_at, is_value, taken}
 
 -- from the one machine the code comes to the other
 pub data Reaches (p : Protocol) (code : Code) (first : Machine) : Machine → Type 0 where

@@ -11,8 +11,8 @@ use Rattle.handler_code.specs.declared.code.Rest.{Rest}
 use Rattle.handler_code.specs.Doors.{is_for_all_else, same_kind}
 use Rattle.handler_code.specs.Live.{ReadsFirst}
 use Rattle.handler_code.specs.Machine.{is_live}
-use Rattle.code_rules.specs.Parts.{end_of, op_at}
-use Rattle.code_rules.specs.Table.{is_marked}
+use Rattle.code_walks.specs.Parts.{end_of, op_at}
+use Rattle.code_walks.specs.Table.{is_marked}
 
 -- ---- rests
 

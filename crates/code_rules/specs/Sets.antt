@@ -4,8 +4,8 @@ use Rattle.std.specs.List.{list_any}
 use Rattle.handler_code.specs.declared.code.Code.{Code}
 use Rattle.handler_code.specs.declared.code.OpCode.{OpCode}
 use Rattle.handler_code.specs.declared.code.OpCode.TheVariants as op
-use Rattle.code_rules.specs.declared.parts.Part.{Part}
-use Rattle.code_rules.specs.Parts.{op_at, ops_of}
+use Rattle.code_walks.specs.declared.parts.Part.{Part}
+use Rattle.code_walks.specs.Parts.{op_at, ops_of}
 
 abbrev pub is_put : ℕ → OpCode → Bool
 is_put slot (op.Put k) = k == slot

@@ -1,5 +1,5 @@
 -- Whether doors and rests fit the ops and the protocol.
-use Rattle.std.specs.Prelude.{ℕ, ◌+◌, ◌/◌, ◌^◌, ◌==◌, nat_le, nat_lt, Bool, true, false, ◌&&◌, ◌||◌, List, [], ◌∷◌, Option, Some, None, find, length, slice_get}
+use Rattle.std.specs.Prelude.{ℕ, ◌+◌, ◌/◌, ◌^◌, ◌==◌, nat_le, nat_lt, Bool, true, false, ◌&&◌, ◌||◌, List, [], ◌∷◌, Option, Some, None, length, slice_get}
 use Rattle.std.specs.List.{list_all}
 use Rattle.teapot_tree.specs.declared.protocol.Handler.{Handler}
 use Rattle.teapot_tree.specs.declared.protocol.Protocol.{Protocol}
@@ -10,11 +10,7 @@ use Rattle.teapot_meaning.specs.Fits.{names_in}
 use Rattle.handler_code.specs.declared.code.Code.{Code}
 use Rattle.handler_code.specs.declared.code.Door.{Door}
 use Rattle.handler_code.specs.declared.code.Rest.{Rest}
-use Rattle.handler_code.specs.Doors.{handlers_at, kind_of, same_kind}
-
--- the handler of the protocol that the door is for
-abbrev pub handler_of : Protocol → Door → Option Handler
-handler_of p door = find (λ h. same_kind (kind_of p h.on) door.on) (handlers_at (slice_get p.states door.state))
+use Rattle.code_walks.specs.Parts.{handler_of}
 
 -- a slot for each variable, and one for the set of each loop
 abbrev pub slot_count : State → Handler → ℕ

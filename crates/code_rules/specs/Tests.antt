@@ -4,11 +4,11 @@ use Rattle.teapot_tree.specs.declared.protocol.Protocol.{Protocol}
 use Rattle.handler_code.specs.declared.code.Code.{Code}
 use Rattle.code_rules.specs.declared.fault.Rule.{Rule}
 use Rattle.code_rules.specs.declared.fault.Rule.TheVariants.{Ranges, Jumps, Stack, Types, Ends, Sets}
-use Rattle.code_rules.specs.declared.parts.Part.{Part}
-use Rattle.code_rules.specs.Jumps.{ends_wrongly, is_out_of_range, leads_wrongly}
-use Rattle.code_rules.specs.Kinds.{breaks_types}
+use Rattle.code_walks.specs.declared.parts.Part.{Part}
+use Rattle.code_walks.specs.Jumps.{ends_wrongly, is_out_of_range, leads_wrongly}
+use Rattle.code_walks.specs.Kinds.{breaks_types}
 use Rattle.code_rules.specs.Sets.{shares_set}
-use Rattle.code_rules.specs.Stacks.{BreaksStack}
+use Rattle.code_walks.specs.Stacks.{BreaksStack}
 
 -- whether the op at a place breaks the rule, for the rules that need no stack
 abbrev pub is_broken : Protocol → Code → Part → Rule → ℕ → Bool

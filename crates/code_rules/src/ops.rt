@@ -1,16 +1,15 @@
 ghost use Rattle.std.specs.Prelude.{◌≡◌, ◌<◌, ◌^◌, IfOk, length, true};
-ghost use Rattle.code_rules.specs.Jumps.{loops_of};
-ghost use Rattle.code_rules.specs.Least.{IsLeast};
-ghost use Rattle.code_rules.specs.Parts.{AtOp, Within};
+ghost use Rattle.code_walks.specs.Jumps.{loops_of};
+ghost use Rattle.code_walks.specs.Least.{IsLeast};
+ghost use Rattle.code_walks.specs.Parts.{AtOp, Within};
 ghost use Rattle.code_rules.specs.Tests.{BreaksAt, is_broken};
 
 use crate::fault::Rule;
-use crate::jumps::{Loop, is_done, is_in_range, leads_well, loops_of};
-use crate::kinds::{first_mistyped, slot_types};
-use crate::least::lesser;
-use crate::parts::{Part, op_at, part_at};
 use crate::sets::has_own_set;
-use crate::stacks::first_on_stack;
+use code_walks::{
+    Loop, Part, first_mistyped, first_on_stack, is_done, is_in_range, leads_well, lesser, loops_of,
+    op_at, part_at, slot_types,
+};
 use handler_code::Code;
 use std::alloc::Global;
 use teapot_tree::{Checked, Protocol};

@@ -1,13 +1,12 @@
 ghost use Rattle.std.specs.Prelude.{◌≡◌, ◌<◌, ◌^◌, IfOk, None, Some, false, if◌then◌else◌, length, slice_get};
 ghost use Rattle.handler_code.specs.Machine.{is_live};
-ghost use Rattle.code_rules.specs.Least.{IsLeast};
-ghost use Rattle.code_rules.specs.Parts.{AtRest};
+ghost use Rattle.code_walks.specs.Least.{IsLeast};
+ghost use Rattle.code_walks.specs.Parts.{AtRest};
 ghost use Rattle.code_rules.specs.Serving.{LosesAt, LosesSlot, is_placed, keeps};
-ghost use Rattle.code_rules.specs.Table.{IsExact};
+ghost use Rattle.code_walks.specs.Table.{IsExact};
 
-use crate::least::lesser;
 use crate::serving::is_placed;
-use crate::table::{is_marked, read_first};
+use code_walks::{is_marked, lesser, read_first};
 use handler_code::{Code, Rest};
 use std::alloc::Global;
 use tw_base::Memory;

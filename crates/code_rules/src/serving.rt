@@ -4,7 +4,7 @@ ghost use Rattle.tw_base.specs.Bits.{all_below};
 ghost use Rattle.handler_code.specs.Doors.{is_for_all_else, same_kind};
 ghost use Rattle.code_rules.specs.Serving.{are_apart, has_default, is_behind, is_placed, same_door, serves_all, suspends_to};
 
-use crate::parts::{end_of, op_at};
+use code_walks::{end_of, op_at, same_kind};
 use handler_code::{Code, Door, Kind2, OpCode, Rest};
 use teapot_tree::Protocol;
 
@@ -40,17 +40,6 @@ pub fn is_placed(code: &Code, number: usize, rest: Rest) -> bool
         && 0 < rest.at
         && suspends_to(&op_at(code, rest.at - 1), number)
         && is_behind(code, rest.door, rest.at - 1)
-}
-
-pub fn same_kind(a: Kind2, b: Kind2) -> bool
-    ensures { result ≡ same_kind a b }
-{
-    match a {
-        Kind2::RdFault => matches!(b, Kind2::RdFault),
-        Kind2::WrFault => matches!(b, Kind2::WrFault),
-        Kind2::Named(m) => matches!(b, Kind2::Named(n) if m == n),
-        Kind2::Default => matches!(b, Kind2::Default),
-    }
 }
 
 fn is_for_all_else(on: Kind2) -> bool

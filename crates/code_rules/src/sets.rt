@@ -2,7 +2,7 @@ ghost use Rattle.std.specs.Prelude.{◌≡◌, count_by};
 ghost use Rattle.std.specs.List.{list_any};
 ghost use Rattle.code_rules.specs.Sets.{has_own_set, is_each_into, is_each_over, is_put, is_put_before, is_set_of_one};
 
-use crate::parts::{Part, op_at, ops_of};
+use code_walks::{Part, op_at, ops_of};
 use handler_code::{Code, OpCode};
 
 fn is_put(op: &OpCode, slot: u8) -> bool

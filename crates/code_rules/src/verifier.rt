@@ -1,6 +1,6 @@
 ghost use Rattle.std.specs.Prelude.{◌≡◌, ◌<◌, ◌≤◌, ◌^◌, IfErr, IfOk, OnOk, length};
 ghost use Rattle.code_rules.specs.Faults.{FirstBelow, sooner};
-ghost use Rattle.code_rules.specs.Least.{IsLeast};
+ghost use Rattle.code_walks.specs.Least.{IsLeast};
 ghost use Rattle.code_rules.specs.Rules.{Breaks, IsFault, KeepsRules, number_of};
 
 use crate::fault::{CodeFault, Fault, Rule};

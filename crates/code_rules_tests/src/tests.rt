@@ -1,4 +1,5 @@
-use code_rules::{CodeFault, live, verify};
+use code_rules::{CodeFault, verify};
+use code_walks::live;
 use handler_code::OpCode;
 use handler_compiler::split;
 use std::alloc::Global;

@@ -26,7 +26,7 @@ use Rattle.handler_code.specs.declared.code.OpCode.{OpCode}
 use Rattle.handler_code.specs.declared.code.OpCode.TheVariants as op
 use Rattle.handler_code.specs.Live.{HasOp}
 use Rattle.handler_code.specs.Machine.{message_arity, state_arity}
-use Rattle.code_rules.specs.Stacks.{depth_after, is_served, is_value, taken, target}
+use Rattle.code_walks.specs.Stacks.{depth_after, is_served, is_value, taken, target}
 use Rattle.suspend_split.specs.Follows.{Evaluates, EvaluatesAll, atom_op, get_op, put_op, slot_of}
 use Rattle.suspend_split.specs.Follows as follows
 use Rattle.suspend_split.proofs.Accepted.{message_counted, state_counted}

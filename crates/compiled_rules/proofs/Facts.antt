@@ -19,7 +19,7 @@ use Rattle.handler_code.specs.declared.code.Door.{Door}
 use Rattle.handler_code.specs.declared.code.OpCode.{OpCode}
 use Rattle.handler_code.specs.declared.code.OpCode.TheVariants as op
 use Rattle.handler_code.specs.Live.{HasOp}
-use Rattle.code_rules.specs.Parts.{end_of, op_at}
+use Rattle.code_walks.specs.Parts.{end_of, op_at}
 use Rattle.suspend_split.specs.Compiled.{code_of, loops_in}
 use Rattle.suspend_split.specs.Whole.{IsCode}
 use Rattle.suspend_split.proofs.Accepted.{all_fine}

@@ -13,7 +13,7 @@ use Rattle.handler_code.specs.declared.code.Door.{Door}
 use Rattle.handler_code.specs.declared.code.OpCode.{OpCode}
 use Rattle.handler_code.specs.declared.code.OpCode.TheVariants as op
 use Rattle.handler_code.specs.Live.{HasOp}
-use Rattle.code_rules.specs.Parts.{end_of, place_or}
+use Rattle.code_walks.specs.Parts.{end_of, place_or}
 use Rattle.suspend_split.specs.Compiled.{code_of, in_order, loops_in, rests_in}
 use Rattle.suspend_split.specs.Whole.{Entry, IsCode, door_of, doors_from, entries_code, entries_from, entries_of, entry_code}
 use Rattle.suspend_split.proofs.Accepted.{contains_first, contains_later}

@@ -13,10 +13,10 @@ use Rattle.handler_code.specs.declared.code.Door.{Door}
 use Rattle.handler_code.specs.declared.code.OpCode.{OpCode}
 use Rattle.handler_code.specs.declared.code.OpCode.TheVariants as op
 use Rattle.handler_code.specs.Live.{HasOp}
-use Rattle.code_rules.specs.declared.jumps.Loop.{Loop}
-use Rattle.code_rules.specs.declared.parts.Part.{Part}
-use Rattle.code_rules.specs.Jumps.{is_back_to, is_each_to, is_nested, is_not_entered, leads_forward, leads_well, leads_wrongly, loop_at, loops_from, loops_of}
-use Rattle.code_rules.specs.Parts.{AtOp, end_of, op_at, part_of}
+use Rattle.code_walks.specs.declared.jumps.Loop.{Loop}
+use Rattle.code_walks.specs.declared.parts.Part.{Part}
+use Rattle.code_walks.specs.Jumps.{is_back_to, is_each_to, is_nested, is_not_entered, leads_forward, leads_well, leads_wrongly, loop_at, loops_from, loops_of}
+use Rattle.code_walks.specs.Parts.{AtOp, end_of, op_at, part_of}
 use Rattle.suspend_split.specs.Whole.{IsCode}
 use Rattle.compiled_rules.proofs.Facts.{each_op, is_neat, op_is}
 use Rattle.compiled_rules.proofs.Handled.{Handled, handled, names_of}

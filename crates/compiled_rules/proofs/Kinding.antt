@@ -29,9 +29,9 @@ use Rattle.handler_code.specs.declared.code.Door.{Door}
 use Rattle.handler_code.specs.declared.code.OpCode.{OpCode}
 use Rattle.handler_code.specs.declared.code.OpCode.TheVariants as op
 use Rattle.handler_code.specs.Live.{HasOp}
-use Rattle.code_rules.specs.Kinds.{breaks_types, filled, gives, has_loop_slots, is_typed, needs, pushed_on, slot_types, top_type, types_after, types_before, variable_types}
-use Rattle.code_rules.specs.Parts.{AtOp, end_of, op_at, part_of}
-use Rattle.code_rules.specs.Structure.{handler_of}
+use Rattle.code_walks.specs.Kinds.{breaks_types, filled, gives, has_loop_slots, is_typed, needs, pushed_on, slot_types, top_type, types_after, types_before, variable_types}
+use Rattle.code_walks.specs.Parts.{AtOp, end_of, op_at, part_of}
+use Rattle.code_walks.specs.Parts.{handler_of}
 use Rattle.suspend_split.specs.Follows.{Evaluates, put_op, slot_of}
 use Rattle.suspend_split.specs.Whole.{IsCode}
 use Rattle.suspend_split.proofs.Accepted.{some_of}

@@ -16,7 +16,7 @@ use Rattle.handler_code.specs.declared.code.OpCode.TheVariants as op
 use Rattle.handler_code.specs.declared.code.Rest.{Rest}
 use Rattle.handler_code.specs.Live.{HasOp, LeadsTo, ReadsFirst, read_by, reads, later}
 use Rattle.handler_code.specs.Machine.{is_live}
-use Rattle.code_rules.specs.Parts.{AtRest, end_of, op_at, place_or}
+use Rattle.code_walks.specs.Parts.{AtRest, end_of, op_at, place_or}
 use Rattle.code_rules.specs.Serving.{LosesSlot, is_behind, is_placed, suspends_to}
 use Rattle.code_rules.specs.Structure.{has_slots_of, is_live_below, is_rest_of}
 use Rattle.suspend_split.specs.Compiled.{in_order, loops_in, rests_by, rests_in}
@@ -222,7 +222,7 @@ module _ (p : Protocol) (code : Code) (a : IsAccepted p) (c : IsCode p code) (nu
   read_small at slot (op.EachNext k h to) g f e = let same : h ≡ slot = cc in let u = f.set_to in omega arith
   read_small at slot _ g f e = cc
 
-  leads_inside : (at next : ℕ) (o : OpCode) (written : Option ℕ) → door.at ≤ at → at < x.fin → FitsHere at o → LeadsTo o at next written → (door.at ≤ next) × (next ≤ x.fin)
+  pub leads_inside : (at next : ℕ) (o : OpCode) (written : Option ℕ) → door.at ≤ at → at < x.fin → FitsHere at o → LeadsTo o at next written → (door.at ≤ next) × (next ≤ x.fin)
   leads_inside at next (op.Jump to) written l u f e = let is = e.0 in let k = f.later in let m = f.within in (omega arith, omega arith)
   leads_inside at next (op.JumpBack to) written l u f e = let is = e.0 in let k = f.within in let m = f.earlier in (omega arith, omega arith)
   leads_inside at next (op.JumpIfNot to) written l u f e = by_side e.0
@@ -237,7 +237,7 @@ module _ (p : Protocol) (code : Code) (a : IsAccepted p) (c : IsCode p code) (nu
   leads_inside at next _ written l u f e = let is = e.0 in (omega arith, omega arith)
 
   -- the op at a place up to the last
-  op_fits : (at : ℕ) (o : OpCode) → door.at ≤ at → at ≤ x.fin → HasOp code.ops at o → ((at < x.fin) × FitsHere at o) ⊎ (o ≡ op.Done)
+  pub op_fits : (at : ℕ) (o : OpCode) → door.at ≤ at → at ≤ x.fin → HasOp code.ops at o → ((at < x.fin) × FitsHere at o) ⊎ (o ≡ op.Done)
   op_fits at o l u has = by_side (before_or at x.fin)
     where
       by_side : (at < x.fin) ⊎ (x.fin ≤ at) → ((at < x.fin) × FitsHere at o) ⊎ (o ≡ op.Done)

@@ -24,8 +24,8 @@ use Rattle.teapot_meaning.proofs.Typed.{both_known, is_of_some, one_known, where
 use Rattle.handler_code.specs.declared.code.OpCode.{OpCode}
 use Rattle.handler_code.specs.declared.code.OpCode.TheVariants as op
 use Rattle.handler_code.specs.Live.{HasOp}
-use Rattle.code_rules.specs.Kinds.{gives, has_loop_slots, is_typed, needs, needs_two, pushed_on, put_on, top_type, type_at, types_after, without}
-use Rattle.code_rules.specs.Kinds as kinds
+use Rattle.code_walks.specs.Kinds.{gives, has_loop_slots, is_typed, needs, needs_two, pushed_on, put_on, top_type, type_at, types_after, without}
+use Rattle.code_walks.specs.Kinds as kinds
 use Rattle.suspend_split.specs.Follows.{Evaluates, EvaluatesAll, atom_op, get_op, put_op, slot_of}
 use Rattle.suspend_split.specs.Follows as follows
 use Rattle.compiled_rules.proofs.Slotting.{SlotsFit}

@@ -1,6 +1,6 @@
 use Rattle.std.proofs.Common.{◌≡◌, subst, true}
-use Rattle.code_rules.specs.Least.{IsLeast}
-use Rattle.code_rules.specs.Parts.{Within}
+use Rattle.code_walks.specs.Least.{IsLeast}
+use Rattle.code_walks.specs.Parts.{Within}
 use Rattle.code_rules.specs.Tests.{is_broken}
 use Rattle.code_rules.proofs.RuleLemmas.{plain_rule}
 use Rattle.code_rules.proofs.ops.first_in.Goals as goal

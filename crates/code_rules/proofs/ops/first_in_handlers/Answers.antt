@@ -1,5 +1,5 @@
 use Rattle.std.proofs.Common.{◌+◌, arith, subst, sym}
-use Rattle.code_rules.specs.Least.{IsLeast}
+use Rattle.code_walks.specs.Least.{IsLeast}
 use Rattle.code_rules.specs.Tests.{BreaksAt}
 use Rattle.code_rules.proofs.Doorways.{OpBefore, op_all, op_next}
 use Rattle.code_rules.proofs.ops.first_in_handlers.Goals as goal

@@ -1,4 +1,4 @@
-use Rattle.code_rules.specs.Least.{IsLeast}
+use Rattle.code_walks.specs.Least.{IsLeast}
 use Rattle.code_rules.specs.Tests.{BreaksAt}
 use Rattle.code_rules.proofs.Doorways.{OpBefore}
 use Rattle.code_rules.proofs.ops.first_in_handlers.Given as goal

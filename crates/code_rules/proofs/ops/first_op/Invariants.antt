@@ -1,6 +1,6 @@
 use Rattle.std.proofs.Common.{◌≡◌, true}
 use Rattle.code_rules.specs.Tests.{is_broken}
-use Rattle.code_rules.proofs.Leasts.{NoneBefore}
+use Rattle.code_walks.proofs.Leasts.{NoneBefore}
 use Rattle.code_rules.proofs.ops.first_op.Given as goal
 
 abbrev pub invariant-loop-at : goal.invariant-loop-at

@@ -1,6 +1,6 @@
 use Rattle.std.proofs.Common.{◌≡◌, ◌+◌, ℕ, arith, subst, sym}
-use Rattle.code_rules.specs.Least.{IsLeast}
-use Rattle.code_rules.specs.Parts.{AtRest}
+use Rattle.code_walks.specs.Least.{IsLeast}
+use Rattle.code_walks.specs.Parts.{AtRest}
 use Rattle.code_rules.specs.Serving.{LosesSlot}
 use Rattle.code_rules.proofs.RestLemmas.{losing_more}
 use Rattle.code_rules.proofs.rests.first_losing.Goals as goal

@@ -1,5 +1,5 @@
-use Rattle.code_rules.specs.Least.{IsLeast}
-use Rattle.code_rules.specs.Parts.{AtRest}
+use Rattle.code_walks.specs.Least.{IsLeast}
+use Rattle.code_walks.specs.Parts.{AtRest}
 use Rattle.code_rules.specs.Serving.{LosesSlot}
 use Rattle.code_rules.proofs.rests.first_losing.Given as goal
 

@@ -1,4 +1,4 @@
-use Rattle.code_rules.specs.Least.{IsLeast}
+use Rattle.code_walks.specs.Least.{IsLeast}
 use Rattle.code_rules.specs.Serving.{LosesAt}
 use Rattle.code_rules.proofs.Doorways.{RestBefore}
 use Rattle.code_rules.proofs.rests.first_losing_slot.Given as goal

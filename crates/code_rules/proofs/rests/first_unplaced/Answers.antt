@@ -1,5 +1,5 @@
 use Rattle.std.proofs.Common.{◌≡◌, ◌+◌, arith, false, subst, sym}
-use Rattle.code_rules.specs.Least.{IsLeast}
+use Rattle.code_walks.specs.Least.{IsLeast}
 use Rattle.code_rules.specs.Serving.{is_placed}
 use Rattle.code_rules.proofs.Doorways.{RestBefore, rest_all, rest_more}
 use Rattle.code_rules.proofs.RestLemmas.{unplaced_here}

@@ -1,5 +1,5 @@
 use Rattle.std.proofs.Common.{◌≡◌, false}
-use Rattle.code_rules.specs.Least.{IsLeast}
+use Rattle.code_walks.specs.Least.{IsLeast}
 use Rattle.code_rules.specs.Serving.{is_placed}
 use Rattle.code_rules.proofs.Doorways.{RestBefore}
 use Rattle.code_rules.proofs.rests.first_unplaced.Given as goal

@@ -1,7 +1,7 @@
 use Rattle.std.proofs.Common.{subst, sym}
 use Rattle.std.specs.Prelude.{IfOk}
-use Rattle.code_rules.specs.Least.{IsLeast}
-use Rattle.code_rules.specs.Parts.{AtOp}
+use Rattle.code_walks.specs.Least.{IsLeast}
+use Rattle.code_walks.specs.Parts.{AtOp}
 use Rattle.code_rules.specs.Rules.{Breaks}
 use Rattle.code_rules.specs.Tests.{BreaksAt}
 use Rattle.code_rules.proofs.RuleLemmas.{ok_then, op_rule}

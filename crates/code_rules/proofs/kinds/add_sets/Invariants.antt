@@ -1,6 +1,0 @@
-use Rattle.std.proofs.Common.{◌≡◌}
-use Rattle.code_rules.specs.Kinds.{with_sets}
-use Rattle.code_rules.proofs.kinds.add_sets.Given as goal
-
-abbrev pub invariant-loop-set : goal.invariant-loop-set
-invariant-loop-set l = l.types ≡ with_sets l._set l.initial.types

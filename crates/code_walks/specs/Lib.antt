@@ -1,0 +1,6 @@
+pub mod Jumps
+pub mod Kinds
+pub mod Least
+pub mod Parts
+pub mod Stacks
+pub mod Table
