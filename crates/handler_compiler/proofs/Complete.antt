@@ -1,9 +1,9 @@
 -- Handler after handler, the code becomes that of the protocol.
 use Rattle.std.proofs.Common.{◌≡◌, ℕ, zero, suc, ◌+◌, true, List, [], ◌∷◌, ◌++◌, Option, Some, None, length, refl, sym, ap, subst, ◌∙◌, arith, append_assoc, length-append, replicate}
-use Rattle.std.specs.Prelude.{map, slice_get, slice_index, ◌↔◌, IfOk, Result, Ok, Err}
+use Rattle.std.specs.Prelude.{map, slice_get, ◌↔◌, IfOk, Result, Ok, Err}
 use Rattle.tw_base.specs.declared.memory.Memory.{Memory}
 use Rattle.std.specs.Option.{option_map}
-use Rattle.std.specs.List.{flat_map, enumerate_from, fold}
+use Rattle.std.specs.List.{flat_map, enumerate_from}
 use Rattle.std.proofs.lemmas.List.{append-nil}
 use Rattle.std.proofs.lemmas.Option.{slice_get-map}
 use Rattle.teapot_tree.specs.declared.protocol.Protocol.{Protocol}
@@ -16,7 +16,7 @@ use Rattle.handler_code.specs.declared.code.Rest.{Rest}
 use Rattle.handler_code.specs.Live.{ReadsFirst}
 use Rattle.handler_code.specs.Machine.{is_live}
 use Rattle.suspend_split.specs.Compiled.{in_order, loops_in, rests_by, rests_in}
-use Rattle.suspend_split.specs.Whole.{Entry, IsCode, IsLive, door_of, doors_from, entries_code, entries_from, entries_of, entry_code, place_by, rest_doors, rest_places}
+use Rattle.suspend_split.specs.Whole.{Entry, IsCode, door_of, doors_from, entries_code, entries_from, entries_of, entry_code, place_by, rest_doors, rest_places}
 use Rattle.handler_compiler.specs.Drafts.{HasLive, no_code, rest_after, rests_after, with_entries, with_entry, with_live, with_ops}
 use Rattle.handler_compiler.specs.Tables.{IsExact}
 

@@ -1,4 +1,4 @@
-ghost use Rattle.std.specs.Prelude.{◌≡◌, IfOk, map};
+ghost use Rattle.std.specs.Prelude.{◌≡◌, ◌^◌, ◌<◌, IfOk, length, map};
 ghost use Rattle.suspend_split.specs.Whole.{IsCode};
 ghost use Rattle.handler_compiler.specs.Drafts.{HasLive, with_live};
 
@@ -10,12 +10,32 @@ use std::alloc::Global;
 use teapot_tree::Checked;
 use tw_base::{Listed, Memory};
 
-/// The code of a protocol's handlers.
+/// The code of a protocol's handlers, which has fewer than 2^22 ops.
 ///
-/// It answers `Memory` as well where the code would have 2^32 ops, a handler 256 slots or more than 32 that are read, or
+/// It answers `Memory` as well where the code would have 2^22 ops, a handler 256 slots or more than 32 that are read, or
 /// the protocol 256 states or infos or 65,536 handlers. The limits of the language keep a protocol far below all of these,
 /// and a text of one megabyte below that many ops.
 pub fn split(alloc: Global, p: &Checked) -> Result<Code, Memory>
+    ensures code { IfOk result (λ code. IsCode p.now code) }
+    ensures short { IfOk result (λ code. length code.ops < 2 ^ 22) }
+{
+    short(compiled(alloc, p)?)
+}
+
+/// The same code, where it has fewer than 2^22 ops.
+fn short(code: Code) -> Result<Code, Memory>
+    ensures same { IfOk result (λ same. same ≡ code) }
+    ensures short { IfOk result (λ same. length same.ops < 2 ^ 22) }
+{
+    if code.ops.len() < 4_194_304 {
+        Ok(code)
+    } else {
+        Err(Memory)
+    }
+}
+
+/// The code of a protocol's handlers, however long.
+fn compiled(alloc: Global, p: &Checked) -> Result<Code, Memory>
     ensures { IfOk result (λ code. IsCode p.now code) }
 {
     let words = Words::new(alloc, p)?;

@@ -1,7 +1,9 @@
 -- What each op leaves as it was, or makes more of.
-use Rattle.std.proofs.Common.{◌≡◌, ℕ, ◌+◌, ◌-◌, ◌≤◌, Bool, true, false, List, [], ◌∷◌, Option, Some, None, length, take, drop, refl, ap, subst, inl, inr, arith, length-append, length-drop}
-use Rattle.std.specs.Prelude.{◌⊎◌, if◌then◌else◌, nat_le, reverse, slice_get, unwrap_or}
-use Rattle.std.proofs.lemmas.List.{length-reverse, length-take}
+use Rattle.std.proofs.Common.{◌≡◌, ℕ, ◌+◌, ◌-◌, ◌<◌, ◌≤◌, Bool, true, false, List, [], ◌∷◌, Option, Some, None, length, take, drop, refl, ap, subst, ◌∙◌, inl, inr, arith, length-append, length-drop}
+use Rattle.std.specs.Prelude.{◌⊎◌, if◌then◌else◌, nat_le, reverse, slice_get, slice_set, unwrap_or}
+use Rattle.std.proofs.lemmas.List.{length-reverse, length-set, length-take}
+use Rattle.tw_base.specs.Lists.{Each}
+use Rattle.tw_base.specs.NodeSets.{without}
 use Rattle.tw_base.specs.declared.value.Data.{Data}
 use Rattle.tw_base.specs.declared.value.Value.{Value}
 use Rattle.tw_base.specs.declared.value.Value.TheVariants as v
@@ -13,11 +15,11 @@ use Rattle.handler_code.specs.declared.code.Code.{Code}
 use Rattle.handler_code.specs.declared.code.OpCode.{OpCode}
 use Rattle.handler_code.specs.declared.code.OpCode.TheVariants as op
 use Rattle.handler_code.specs.declared.code.Rest.{Rest}
-use Rattle.handler_code.specs.Live.{HasOp}
+use Rattle.handler_code.specs.Live.{HasOp, LeadsTo}
 use Rattle.handler_code.specs.Machine.{Machine, Move, Next, Stop, Stopped, Saved, Runs, stops, moves, act, act_at, below, counted, landing, move_of, place_of_rest, message_arity, resumed, state_arity, stopped, suspended, top, turn, value_at}
 use Rattle.handler_vm.specs.Chains.{IsFull}
 use Rattle.handler_vm.specs.Inside.{IsInner, OnNext}
-use Rattle.handler_vm.specs.Room.{HasDepth, taken_by}
+use Rattle.handler_vm.specs.Room.{HasDepth, HasPlaces, IsThere, taken_by}
 
 -- ---- ops are counted, sends are never fewer
 
@@ -158,6 +160,81 @@ module _ (p : Protocol) (code : Code) (depth : ℕ → ℕ) (h : HasDepth p code
   deeper op.Done m has deep = tt
   deeper (op.EachNext k s to) m has deep = turns_stack m k s to (set_of (value_at m.slots s)) (least_of (set_of (value_at m.slots s))) (turns_deep m k s to (set_of (value_at m.slots s)) (least_of (set_of (value_at m.slots s))) has deep)
   deeper (op.JumpBack to) m has deep = omega (arith, h.leads m.at (to) (op.JumpBack to) None has (refl, refl), h.enough m.at (op.JumpBack to) has, deep)
+
+-- ---- an op at the place, and enough slots
+
+-- the place is that of an op, and no slot of the handler is missing
+pub record Placed (code : Code) (width : ℕ → ℕ) (m : Machine) : Type 0 where
+  pub there : m.at < length code.ops
+  pub wide : width m.at ≤ length m.slots
+
+module _ (p : Protocol) (code : Code) (width : ℕ → ℕ) (h : HasPlaces p code width) where
+  onward : (m n : Machine) (o : OpCode) (written : Option ℕ) → HasOp code.ops m.at o → LeadsTo o m.at n.at written → length n.slots ≡ length m.slots → Placed code width m → Placed code width n
+  onward m n o written has leads same placed =
+      let next = h.leads m.at n.at o written has leads in
+      record { there = next.0; wide = omega (arith, next.1, same, placed.wide) }
+
+  resumed_there : (rest : Option Rest) (k : ℕ) → slice_get code.rests k ≡ rest → 0 < length code.ops → place_of_rest rest < length code.ops
+  resumed_there (Some rest) k e some = h.rests k rest e
+  resumed_there None k e some = some
+
+  resumes_placed : (m : Machine) (chain : List Saved) → 0 < length code.ops → Each (λ (s : Saved). length s.values ≡ 21) chain → OnNext (Placed code width) (resumed code m chain)
+  resumes_placed m [] some full = tt
+  resumes_placed m (first ∷ chain) some full = record {
+    there = resumed_there (slice_get code.rests first.rest) first.rest refl some;
+    wide = omega (arith, full.0, h.most (place_of_rest (slice_get code.rests first.rest)));
+  }
+
+  turns_placed : (m : Machine) (k s to : ℕ) (set : List Bool) (least : Option ℕ) → HasOp code.ops m.at (op.EachNext k s to) → Placed code width m → Placed code width (turn m k s to set least)
+  turns_placed m k s to set None has placed = onward m _ (op.EachNext k s to) None has (inl (refl, refl)) refl placed
+  turns_placed m k s to set (Some n) has placed =
+      onward m _ (op.EachNext k s to) (Some k) has (inr (refl, refl)) (length-set (slice_set m.slots k (v.Node n)) s (v.Set (without set n)) ∙ length-set m.slots k (v.Node n)) placed
+
+  either_placed : (b : Bool) (x y : Stopped) → OnNext (Placed code width) (if b then Stop x else Stop y)
+  either_placed true x y = tt
+  either_placed false x y = tt
+
+  -- so it is at the next place too
+  pub placed_next : (o : OpCode) (m : Machine) → HasOp code.ops m.at o → Placed code width m → Each (λ (s : Saved). length s.values ≡ 21) m.chain → OnNext (Placed code width) (act p code o m)
+  placed_next (op.Const x) m has placed full = onward m _ (op.Const x) None has (refl, refl) refl placed
+  placed_next (op.Get k) m has placed full = onward m _ (op.Get k) None has (refl, refl) refl placed
+  placed_next (op.GetInfo k) m has placed full = onward m _ (op.GetInfo k) None has (refl, refl) refl placed
+  placed_next op.Me m has placed full = onward m _ op.Me None has (refl, refl) refl placed
+  placed_next op.Home m has placed full = onward m _ op.Home None has (refl, refl) refl placed
+  placed_next op.One m has placed full = onward m _ op.One None has (refl, refl) refl placed
+  placed_next op.Not m has placed full = onward m _ op.Not None has (refl, refl) refl placed
+  placed_next op.Count m has placed full = onward m _ op.Count None has (refl, refl) refl placed
+  placed_next (op.Two o) m has placed full = onward m _ (op.Two o) None has (refl, refl) refl placed
+  placed_next (op.Put k) m has placed full = onward m _ (op.Put k) (Some k) has (refl, refl) (length-set m.slots k (top m.stack)) placed
+  placed_next (op.PutInfo k) m has placed full = onward m _ (op.PutInfo k) None has (refl, refl) refl placed
+  placed_next (op.JumpIfNot to) m has placed full = onward m _ (op.JumpIfNot to) None has (landing_either (top m.stack) (m.at + 1) to, refl) refl placed
+  placed_next (op.Jump to) m has placed full = onward m _ (op.Jump to) None has (refl, refl) refl placed
+  placed_next (op.Tag tag) m has placed full = onward m _ (op.Tag tag) None has (refl, refl) refl placed
+  placed_next op.Install m has placed full = onward m _ op.Install None has (refl, refl) refl placed
+  placed_next op.Enqueue m has placed full = onward m _ op.Enqueue None has (refl, refl) refl placed
+  placed_next op.Wake m has placed full = onward m _ op.Wake None has (refl, refl) refl placed
+  placed_next (op.Send number) m has placed full = onward m _ (op.Send number) None has (refl, refl) refl placed
+  placed_next (op.SendAll number) m has placed full = onward m _ (op.SendAll number) None has (refl, refl) refl placed
+  placed_next (op.Goto state) m has placed full = onward m _ (op.Goto state) None has (refl, refl) refl placed
+  placed_next (op.Suspend state rest) m has placed full = either_placed (nat_le 8 (length m.chain)) _ _
+  placed_next op.Resume m has placed full = resumes_placed (counted m) m.chain (omega (arith, placed.there)) full
+  placed_next (op.Fail n) m has placed full = tt
+  placed_next op.Done m has placed full = tt
+  placed_next (op.EachNext k s to) m has placed full = turns_placed m k s to (set_of (value_at m.slots s)) (least_of (set_of (value_at m.slots s))) has placed
+  placed_next (op.JumpBack to) m has placed full = onward m _ (op.JumpBack to) None has (refl, refl) refl placed
+
+-- what an op names is there with more slots too
+pub there_more : (p : Protocol) (code : Code) (width slots : ℕ) (o : OpCode) → width ≤ slots → IsThere p code width o → IsThere p code slots o
+there_more p code width slots (op.Get k) low there = omega (arith, low, there)
+there_more p code width slots (op.Put k) low there = omega (arith, low, there)
+there_more p code width slots (op.EachNext k h to) low there = (omega (arith, low, there.0), omega (arith, low, there.1))
+there_more p code width slots (op.GetInfo k) low there = there
+there_more p code width slots (op.PutInfo k) low there = there
+there_more p code width slots (op.Send number) low there = there
+there_more p code width slots (op.SendAll number) low there = there
+there_more p code width slots (op.Goto state) low there = there
+there_more p code width slots (op.Suspend state rest) low there = there
+there_more p code width slots _ low there = tt
 
 -- ---- the arguments of the state, and the data
 

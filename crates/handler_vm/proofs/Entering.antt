@@ -1,9 +1,12 @@
 -- What an accepted protocol and its code say of a run at its start.
-use Rattle.std.proofs.Common.{◌≡◌, ℕ, zero, suc, ◌≤◌, Bool, true, false, List, [], ◌∷◌, ◌++◌, Option, Some, None, length, arith}
+use Rattle.std.proofs.Common.{◌≡◌, ℕ, zero, suc, ◌≤◌, Bool, true, false, List, [], ◌∷◌, ◌++◌, Option, Some, None, length, replicate, ◌-◌, arith, length-append}
 use Rattle.std.specs.Prelude.{cond, find, slice_get}
 use Rattle.std.specs.List.{flat_map}
+use Rattle.std.proofs.lemmas.List.{length-replicate}
 use Rattle.tw_base.specs.Lists.{Each}
 use Rattle.tw_base.specs.declared.message.Kind.{Kind}
+use Rattle.tw_base.specs.declared.value.Value.{Value}
+use Rattle.tw_base.specs.declared.value.Value.TheVariants.{Int}
 use Rattle.teapot_tree.specs.declared.protocol.Handler.{Handler}
 use Rattle.teapot_tree.specs.declared.protocol.MessageDecl.{MessageDecl}
 use Rattle.teapot_tree.specs.declared.protocol.Protocol.{Protocol}
@@ -11,11 +14,11 @@ use Rattle.teapot_tree.specs.declared.protocol.State.{State}
 use Rattle.teapot_tree.specs.Rules.{IsAccepted}
 use Rattle.handler_code.specs.declared.code.Code.{Code}
 use Rattle.handler_code.specs.declared.code.Door.{Door}
-use Rattle.handler_code.specs.Doors.{door_for, door_or, handlers_at, kind_of, locals_at, locals_of, same_kind}
+use Rattle.handler_code.specs.Doors.{door_for, door_or, filled, handlers_at, kind_of, locals_at, locals_of, same_kind}
 use Rattle.handler_code.specs.Machine.{message_arity, state_arity}
-use Rattle.handler_vm.specs.Inside.{FewArgs}
+use Rattle.handler_vm.specs.Inside.{HasFew}
 
--- ---- four arguments, eight locals
+-- ---- four arguments, eight infos, eight locals
 
 few_in : (ms : List MessageDecl) → Each (λ m. length m.args ≤ 4) ms → (k : ℕ) → message_arity (slice_get ms k) ≤ 4
 few_in [] few k = omega arith
@@ -27,8 +30,8 @@ few_of [] few k = omega arith
 few_of (s ∷ ss) few zero = few.0
 few_of (s ∷ ss) few (suc k) = few_of ss few.1 k
 
-pub few_args : (p : Protocol) → IsAccepted p → FewArgs p
-few_args p a = record { messages = few_in p.messages a.tree.few_message_args; states = few_of p.states a.tree.few_params }
+pub has_few : (p : Protocol) → IsAccepted p → HasFew p
+has_few p a = record { messages = few_in p.messages a.tree.few_message_args; states = few_of p.states a.tree.few_params; infos = a.tree.few_infos }
 
 abbrev Short : Handler → Type 0
 Short h = length h.locals ≤ 8
@@ -56,6 +59,11 @@ found_short test (h ∷ hs) all = picked_short (test h) h (find test hs) all.0 (
 
 pub few_locals : (p : Protocol) (door : Door) → IsAccepted p → length (locals_of p door) ≤ 8
 few_locals p door a = found_short (λ h. same_kind (kind_of p h.on) door.on) (handlers_at (slice_get p.states door.state)) (handlers_short p.states a.tree.few_locals door.state)
+
+-- ---- as many slots as are filled
+
+pub wide_filled : (slots : ℕ) (xs : List Value) → slots ≤ length (filled slots xs)
+wide_filled slots xs = omega (arith, length-append xs (replicate (slots - length xs) (Int 0)), length-replicate (slots - length xs) (Int 0))
 
 -- ---- a door that is found is one of the code's
 

@@ -1,20 +1,22 @@
 -- What the end says of an op on the way, and what the table of depths says.
 use Rattle.std.proofs.Common.{◌≡◌, ℕ, ◌+◌, ◌≤◌, Option, Some, None, length, refl, sym, ap, subst, ◌∙◌, inl, arith}
-use Rattle.std.specs.Prelude.{All, List, slice_get}
+use Rattle.std.specs.Prelude.{All, List, [], ◌∷◌, map, slice_get}
 use Rattle.teapot_tree.specs.declared.protocol.Protocol.{Protocol}
 use Rattle.handler_code.specs.declared.code.Code.{Code}
 use Rattle.handler_code.specs.declared.code.OpCode.{OpCode}
 use Rattle.handler_code.specs.declared.code.OpCode.TheVariants as op
 use Rattle.handler_code.specs.Live.{HasOp}
-use Rattle.handler_code.specs.Machine.{Machine, Move, Next, Stopped, Runs, stops, moves, act, act_at, move_of}
+use Rattle.handler_code.specs.Machine.{Machine, Move, Next, Saved, Stopped, Runs, stops, moves, act, act_at, move_of}
+use Rattle.tw_base.specs.Lists.{Each}
 use Rattle.tw_base.specs.declared.message.Message.{Message}
+use Rattle.cont_store.specs.declared.record.Record.{Record}
 use Rattle.cont_store.specs.Store.{Store}
 use Rattle.handler_vm.specs.declared.running.Running.{Running}
-use Rattle.handler_vm.specs.Chains.{Spares, saved_from}
-use Rattle.handler_vm.specs.Inside.{IsDeep, IsSound, OnNext, SameBlock, WillStop, machine_of}
+use Rattle.handler_vm.specs.Chains.{IsWhole, Spares, records_of, saved_from, saved_of}
+use Rattle.handler_vm.specs.Inside.{IsAtOp, IsSound, OnNext, SameBlock, WillStop, machine_of}
 use Rattle.handler_vm.specs.Sending.{IsUnsent}
-use Rattle.handler_vm.specs.Room.{HasDepth, put_by, taken_by}
-use Rattle.handler_vm.proofs.Acting.{deeper, run_grows}
+use Rattle.handler_vm.specs.Room.{HasDepth, HasPlaces, put_by, taken_by}
+use Rattle.handler_vm.proofs.Acting.{Placed, deeper, placed_next, run_grows}
 use Rattle.handler_vm.proofs.Chaining.{spares_all, spares_more}
 
 carried : (p : Protocol) (code : Code) (x : Move) (a b : Machine) (e : Stopped) → x ≡ Next a → x ≡ Next b → Runs p code a e → Runs p code b e
@@ -31,9 +33,6 @@ room_next p code room (moves h rest) few = subst (OnNext (λ n. length n.around.
 
 pub move_is : (p : Protocol) (code : Code) (m : Machine) (o : OpCode) → slice_get code.ops m.at ≡ Some o → move_of p code m ≡ act p code o m
 move_is p code m o e = ap (λ x. act_at p code x m) e
-
-pub no_move : (p : Protocol) (code : Code) (m : Machine) → slice_get code.ops m.at ≡ None → move_of p code m ≡ act_at p code None m
-no_move p code m e = ap (λ x. act_at p code x m) e
 
 module _ (p : Protocol) (code : Code) (depth : ℕ → ℕ) (h : HasDepth p code depth) where
   -- the values that an op leaves have room
@@ -69,8 +68,34 @@ module _ (p : Protocol) (code : Code) (depth : ℕ → ℕ) (h : HasDepth p code
   deep_by m deep (Some o) e = deeper p code depth h o m e deep
   deep_by m deep None e = tt
 
-  pub deep_next : (m n : Machine) → depth m.at ≡ length m.stack → move_of p code m ≡ Next n → depth n.at ≡ length n.stack
+  deep_next : (m n : Machine) → depth m.at ≡ length m.stack → move_of p code m ≡ Next n → depth n.at ≡ length n.stack
   deep_next m n deep e = let d : OnNext (λ n. depth n.at ≡ length n.stack) (Next n) = subst (OnNext (λ n. depth n.at ≡ length n.stack)) e (deep_by m deep (slice_get code.ops m.at) refl) in d
+
+module _ (p : Protocol) (code : Code) (width : ℕ → ℕ) (h : HasPlaces p code width) where
+  placed_at : (m : Machine) → Placed code width m → Each (λ (s : Saved). length s.values ≡ 21) m.chain → (o : Option OpCode) → slice_get code.ops m.at ≡ o → OnNext (Placed code width) (act_at p code o m)
+  placed_at m placed full (Some o) e = placed_next p code width h o m e placed full
+  placed_at m placed full None e = tt
+
+  placed_by : (m n : Machine) → Placed code width m → Each (λ (s : Saved). length s.values ≡ 21) m.chain → move_of p code m ≡ Next n → Placed code width n
+  placed_by m n placed full e =
+      let after : OnNext (Placed code width) (Next n) = subst (OnNext (Placed code width)) e (placed_at m placed full (slice_get code.ops m.at) refl) in after
+
+-- ---- the run's place
+
+all_full : (p : Protocol) (words : ℕ) (rs : List Record) → Each (IsWhole words) rs → Each (λ (s : Saved). length s.values ≡ 21) (map (saved_of p) rs)
+all_full p words [] whole = tt
+all_full p words (r ∷ rs) whole = (whole.0.values, all_full p words rs whole.1)
+
+at_op_next :
+    (p : Protocol) (code : Code) (now next : Running) (sent more : List Message) (store other : Store) → IsSound p now store → IsAtOp p code now
+    → move_of p code (machine_of p now sent (saved_from p store now.cont)) ≡ Next (machine_of p next more (saved_from p other next.cont)) → IsAtOp p code next
+at_op_next p code now next sent more store other sound at on =
+    let m = machine_of p now sent (saved_from p store now.cont) in
+    let n = machine_of p next more (saved_from p other next.cont) in
+    let full = all_full p (length now.words) (records_of store now.cont) sound.chain.whole in
+    let placed : Placed code at.room.width m = record { there = at.there; wide = at.wide } in
+    let after : Placed code at.room.width n = placed_by p code at.room.width at.room.places m n placed full on in
+    record { room = at.room; deep = deep_next p code at.room.depth at.room.stack m n at.deep on; there = after.there; wide = after.wide }
 
 -- ---- a run under way
 
@@ -78,19 +103,19 @@ module _ (p : Protocol) (code : Code) (depth : ℕ → ℕ) (h : HasDepth p code
 pub record Underway (p : Protocol) (code : Code) (was : Running) (first : List Message) (old : Store) (now : Running) (sent : List Message) (store : Store) (room : ℕ) : Type 0 where
   pub back : (e : Stopped) → Runs p code (machine_of p now sent (saved_from p store now.cont)) e → Runs p code (machine_of p was first (saved_from p old was.cont)) e
   pub sound : IsSound p now store
-  pub deep : IsDeep p code now
+  pub placed : IsAtOp p code now
   pub stops : WillStop p code room (machine_of p now sent (saved_from p store now.cont))
   pub spares : Spares old store was.cont now.cont
   pub unsent : All (IsUnsent p was.me was.block) first → All (IsUnsent p was.me was.block) sent
   pub block : SameBlock p was now
   pub words : length now.words ≡ length was.words
 
-pub underway_first : (p : Protocol) (code : Code) (was : Running) (first : List Message) (old : Store) (room : ℕ) → IsSound p was old → IsDeep p code was
+pub underway_first : (p : Protocol) (code : Code) (was : Running) (first : List Message) (old : Store) (room : ℕ) → IsSound p was old → IsAtOp p code was
     → WillStop p code room (machine_of p was first (saved_from p old was.cont)) → Underway p code was first old was first old room
-underway_first p code was first old room sound deep will = record {
+underway_first p code was first old room sound placed will = record {
   back = λ e r. r;
   sound = sound;
-  deep = deep;
+  placed = placed;
   stops = will;
   spares = spares_all old was.cont;
   unsent = λ all. all;
@@ -115,7 +140,7 @@ module _ (p : Protocol) (code : Code) (was : Running) (first : List Message) (ol
   underway_next u on sound spares unsent block words = record {
     back = λ e r. u.back e (moves on r);
     sound = sound;
-    deep = record { room = u.deep.room; deep = deep_next p code u.deep.room.depth u.deep.room.stack (machine_of p now sent (saved_from p store now.cont)) (machine_of p next more (saved_from p other next.cont)) u.deep.deep on };
+    placed = at_op_next p code now next sent more store other u.sound u.placed on;
     stops = will_stop p code room (machine_of p now sent (saved_from p store now.cont)) (machine_of p next more (saved_from p other next.cont)) u.stops on;
     spares = spares_more u.spares spares;
     unsent = λ all. same_unsent p now.me was.me now.block was.block more u.block.me u.block.for_block (unsent (same_unsent p was.me now.me was.block now.block sent (sym u.block.me) (sym u.block.for_block) (u.unsent all)));

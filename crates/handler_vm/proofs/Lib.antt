@@ -1,6 +1,7 @@
 mod Acting
 mod Chaining
 mod Entering
+mod Finding
 mod Going
 mod Members
 mod Saving

@@ -1,21 +1,12 @@
 -- The values that a suspension keeps, one after another.
-use Rattle.std.proofs.Common.{◌≡◌, ℕ, suc, ◌+◌, ◌-◌, ◌<◌, ◌≤◌, Bool, true, false, List, [], ◌∷◌, ◌++◌, Option, Some, None, length, get_or, set, take, replicate, refl, sym, ap, ◌∙◌, arith, append_assoc, length-append}
+use Rattle.std.proofs.Common.{◌≡◌, ℕ, suc, ◌+◌, ◌-◌, ◌<◌, ◌≤◌, Bool, true, false, List, [], ◌∷◌, ◌++◌, Some, length, get_or, set, take, replicate, refl, sym, ap, ◌∙◌, arith, append_assoc, length-append}
 use Rattle.std.specs.Prelude.{if◌then◌else◌}
 use Rattle.std.proofs.lemmas.List.{length-replicate, length-take-le, set_at, take_more}
 use Rattle.tw_base.specs.declared.value.Value.{Value}
 use Rattle.tw_base.specs.declared.value.Value.TheVariants.{Int}
 use Rattle.handler_code.specs.declared.code.Rest.{Rest}
 use Rattle.handler_code.specs.Doors.{filled}
-use Rattle.handler_code.specs.Machine.{live_values, saved_values}
-use Rattle.handler_vm.specs.Places.{keeps}
-
-all_live : (k : ℕ) (xs : List Value) → live_values (λ j. true) k xs ≡ xs
-all_live k [] = refl
-all_live k (x ∷ xs) = ap (λ ys. x ∷ ys) (all_live (k + 1) xs)
-
-saved_is : (rest : Option Rest) (xs : List Value) → live_values (keeps rest) 0 xs ≡ saved_values rest xs
-saved_is (Some rest) xs = refl
-saved_is None xs = all_live 0 xs
+use Rattle.handler_code.specs.Machine.{is_live, live_values, saved_values}
 
 length-live_values : (live : ℕ → Bool) (k : ℕ) (xs : List Value) → length (live_values live k xs) ≡ length xs
 length-live_values live k [] = refl
@@ -30,45 +21,43 @@ live_values-push live k (y ∷ xs) x =
 zeros_more : (n k : ℕ) → k < n → replicate (n - k) (Int 0) ≡ Int 0 ∷ replicate (n - (k + 1)) (Int 0)
 zeros_more n k low = let e : n - k ≡ suc (n - (k + 1)) = omega arith in ap (λ j. replicate j (Int 0)) e
 
-module _ (rest : Option Rest) (own : List Value) where
+module _ (rest : Rest) (own : List Value) where
   abbrev pub done : ℕ → List Value
-  done k = live_values (keeps rest) 0 (take k own) ++ replicate (21 - k) (Int 0)
+  done k = live_values (is_live rest) 0 (take k own) ++ replicate (21 - k) (Int 0)
 
-  long : (k : ℕ) → k ≤ length own → length (live_values (keeps rest) 0 (take k own)) ≡ k
-  long k low = length-live_values (keeps rest) 0 (take k own) ∙ length-take-le k own low
+  long : (k : ℕ) → k ≤ length own → length (live_values (is_live rest) 0 (take k own)) ≡ k
+  long k low = length-live_values (is_live rest) 0 (take k own) ∙ length-take-le k own low
 
-  front : (k : ℕ) (d : Value) → k < length own → live_values (keeps rest) 0 (take (k + 1) own) ≡ live_values (keeps rest) 0 (take k own) ++ (if keeps rest k then get_or own k d else Int 0) ∷ []
+  front : (k : ℕ) (d : Value) → k < length own → live_values (is_live rest) 0 (take (k + 1) own) ≡ live_values (is_live rest) 0 (take k own) ++ (if is_live rest k then get_or own k d else Int 0) ∷ []
   front k d low =
       let e : 0 + length (take k own) ≡ k = omega (arith, length-take-le k own (omega (arith, low))) in
-      ap (live_values (keeps rest) 0) (take_more own k d low) ∙ live_values-push (keeps rest) 0 (take k own) (get_or own k d)
-      ∙ ap (λ n. live_values (keeps rest) 0 (take k own) ++ (if keeps rest n then get_or own k d else Int 0) ∷ []) e
+      ap (live_values (is_live rest) 0) (take_more own k d low) ∙ live_values-push (is_live rest) 0 (take k own) (get_or own k d)
+      ∙ ap (λ n. live_values (is_live rest) 0 (take k own) ++ (if is_live rest n then get_or own k d else Int 0) ∷ []) e
 
-  more : (k : ℕ) (d : Value) → k < length own → done (k + 1) ≡ live_values (keeps rest) 0 (take k own) ++ (if keeps rest k then get_or own k d else Int 0) ∷ replicate (21 - (k + 1)) (Int 0)
+  more : (k : ℕ) (d : Value) → k < length own → done (k + 1) ≡ live_values (is_live rest) 0 (take k own) ++ (if is_live rest k then get_or own k d else Int 0) ∷ replicate (21 - (k + 1)) (Int 0)
   more k d low =
       ap (λ xs. xs ++ replicate (21 - (k + 1)) (Int 0)) (front k d low)
-      ∙ append_assoc (live_values (keeps rest) 0 (take k own)) ((if keeps rest k then get_or own k d else Int 0) ∷ []) (replicate (21 - (k + 1)) (Int 0))
+      ∙ append_assoc (live_values (is_live rest) 0 (take k own)) ((if is_live rest k then get_or own k d else Int 0) ∷ []) (replicate (21 - (k + 1)) (Int 0))
 
-  split : (k : ℕ) → k < 21 → done k ≡ live_values (keeps rest) 0 (take k own) ++ Int 0 ∷ replicate (21 - (k + 1)) (Int 0)
-  split k low = ap (λ xs. live_values (keeps rest) 0 (take k own) ++ xs) (zeros_more 21 k low)
+  split : (k : ℕ) → k < 21 → done k ≡ live_values (is_live rest) 0 (take k own) ++ Int 0 ∷ replicate (21 - (k + 1)) (Int 0)
+  split k low = ap (λ xs. live_values (is_live rest) 0 (take k own) ++ xs) (zeros_more 21 k low)
 
   -- the slot is kept
-  pub done_kept : (k : ℕ) (d : Value) (values : List Value) → k < length own → k < 21 → keeps rest k ≡ true → values ≡ done k → set values k (get_or own k d) ≡ done (k + 1)
+  pub done_kept : (k : ℕ) (d : Value) (values : List Value) → k < length own → k < 21 → is_live rest k ≡ true → values ≡ done k → set values k (get_or own k d) ≡ done (k + 1)
   done_kept k d values low few here e =
       ap (λ xs. set xs k (get_or own k d)) (e ∙ split k few)
-      ∙ set_at (live_values (keeps rest) 0 (take k own)) (Int 0) (replicate (21 - (k + 1)) (Int 0)) (get_or own k d) k (long k (omega (arith, low)))
-      ∙ sym (more k d low ∙ ap (λ b. live_values (keeps rest) 0 (take k own) ++ (if b then get_or own k d else Int 0) ∷ replicate (21 - (k + 1)) (Int 0)) here)
+      ∙ set_at (live_values (is_live rest) 0 (take k own)) (Int 0) (replicate (21 - (k + 1)) (Int 0)) (get_or own k d) k (long k (omega (arith, low)))
+      ∙ sym (more k d low ∙ ap (λ b. live_values (is_live rest) 0 (take k own) ++ (if b then get_or own k d else Int 0) ∷ replicate (21 - (k + 1)) (Int 0)) here)
 
   -- it is not
-  pub done_left : (k : ℕ) (d : Value) (values : List Value) → k < length own → k < 21 → keeps rest k ≡ false → values ≡ done k → values ≡ done (k + 1)
+  pub done_left : (k : ℕ) (d : Value) (values : List Value) → k < length own → k < 21 → is_live rest k ≡ false → values ≡ done k → values ≡ done (k + 1)
   done_left k d values low few none e =
-      e ∙ split k few ∙ sym (more k d low ∙ ap (λ b. live_values (keeps rest) 0 (take k own) ++ (if b then get_or own k d else Int 0) ∷ replicate (21 - (k + 1)) (Int 0)) none)
+      e ∙ split k few ∙ sym (more k d low ∙ ap (λ b. live_values (is_live rest) 0 (take k own) ++ (if b then get_or own k d else Int 0) ∷ replicate (21 - (k + 1)) (Int 0)) none)
 
-  pub done_all : (width : ℕ) → width ≤ length own → done width ≡ filled 21 (saved_values rest (take width own))
+  pub done_all : (width : ℕ) → width ≤ length own → done width ≡ filled 21 (saved_values (Some rest) (take width own))
   done_all width low =
-      let wide : length (saved_values rest (take width own)) ≡ width = ap length (sym (saved_is rest (take width own))) ∙ long width low in
-      ap (λ xs. xs ++ replicate (21 - width) (Int 0)) (saved_is rest (take width own))
-      ∙ ap (λ n. saved_values rest (take width own) ++ replicate (21 - n) (Int 0)) (sym wide)
+      ap (λ n. saved_values (Some rest) (take width own) ++ replicate (21 - n) (Int 0)) (sym (long width low))
 
   pub length-done : (k : ℕ) → k ≤ length own → k ≤ 21 → length (done k) ≡ 21
   length-done k low few =
-      omega (arith, length-append (live_values (keeps rest) 0 (take k own)) (replicate (21 - k) (Int 0)), long k low, length-replicate (21 - k) (Int 0))
+      omega (arith, length-append (live_values (is_live rest) 0 (take k own)) (replicate (21 - k) (Int 0)), long k low, length-replicate (21 - k) (Int 0))

@@ -1,8 +1,8 @@
 -- A stack whose top is the last value in use of an array.
-use Rattle.std.proofs.Common.{◌≡◌, ℕ, ◌+◌, ◌-◌, ◌<◌, ◌≤◌, List, ◌++◌, length, take, drop, sym, ap, ◌∙◌, arith}
+use Rattle.std.proofs.Common.{◌≡◌, ℕ, ◌+◌, ◌-◌, ◌≤◌, List, ◌++◌, length, take, drop, sym, ap, ◌∙◌, arith}
 use Rattle.std.specs.Prelude.{reverse}
 use Rattle.std.proofs.Math.Seq.{take-add}
-use Rattle.std.proofs.lemmas.List.{drop_all, drop_at, length-drop, length-reverse, length-take-le, reverse-append, reverse-reverse, take_all, take_at}
+use Rattle.std.proofs.lemmas.List.{drop_at, length-drop, length-reverse, length-take-le, reverse-append, reverse-reverse, take_at}
 
 module _ {X : Type 0} (xs : List X) (start end : ℕ) (low : start ≤ end) (high : end ≤ length xs) where
   parts : reverse (take end xs) ≡ reverse (take (end - start) (drop start xs)) ++ reverse (take start xs)
@@ -20,16 +20,3 @@ module _ {X : Type 0} (xs : List X) (start end : ℕ) (low : start ≤ end) (hig
 
   pub left_all : (count : ℕ) → end - start ≡ count → reverse (take start xs) ≡ drop count (reverse (take end xs))
   left_all count e = sym (ap (drop count) parts ∙ drop_at _ (reverse (take start xs)) count (long ∙ e))
-
-module _ {X : Type 0} (xs : List X) (end : ℕ) (high : end ≤ length xs) where
-  short : (count : ℕ) → end < count → length (reverse (take end xs)) ≤ count
-  short count few = omega (arith, length-reverse (take end xs), length-take-le end xs high)
-
-  -- more were asked for than there are
-  pub taken_some : (count : ℕ) → end < count → take (end - 0) (drop 0 xs) ≡ reverse (take count (reverse (take end xs)))
-  taken_some count few =
-      let e : end - 0 ≡ end = omega arith in
-      ap (λ n. take n xs) e ∙ sym (ap reverse (take_all count (reverse (take end xs)) (short count few)) ∙ reverse-reverse (take end xs))
-
-  pub left_some : (count : ℕ) → end < count → reverse (take 0 xs) ≡ drop count (reverse (take end xs))
-  left_some count few = sym (drop_all count (reverse (take end xs)) (short count few))

@@ -52,10 +52,11 @@ machine_of p r sent chain = record {
 abbrev pub machine_with : Protocol → Running → Sends → Store → Machine
 machine_with p r sends store = machine_of p r sends.sent (saved_from p store r.cont)
 
--- no message and no state has more than four arguments
-pub record FewArgs (p : Protocol) : Type 0 where
+-- no message and no state has more than four arguments, and there are no more than eight infos
+pub record HasFew (p : Protocol) : Type 0 where
   pub messages : (number : ℕ) → message_arity (slice_get p.messages number) ≤ 4
   pub states : (state : ℕ) → state_arity (slice_get p.states state) ≤ 4
+  pub infos : length p.infos ≤ 8
 
 -- the op touches neither the sends nor the records, and the run goes on
 abbrev pub IsInner : OpCode → Type 0
@@ -103,10 +104,12 @@ abbrev pub OnNext : (Machine → Type 0) → Move → Type 0
 OnNext P (Next m) = P m
 OnNext P (Stop e) = ⊤
 
--- the stack has the length that the code has at the run's place
-pub record IsDeep (p : Protocol) (code : Code) (r : Running) : Type 0 where
+-- The run's place is that of an op, the stack has its length there, and no slot of the handler is missing.
+pub record IsAtOp (p : Protocol) (code : Code) (r : Running) : Type 0 where
   pub room : HasRoom p code
   pub deep : room.depth r.at ≡ length r.stack
+  pub there : r.at < length code.ops
+  pub wide : room.width r.at ≤ length r.slots
 
 -- the machine comes to a stop, with no more ops than can be counted and no more sends than there is room for
 pub record WillStop (p : Protocol) (code : Code) (room : ℕ) (m : Machine) : Type 0 where

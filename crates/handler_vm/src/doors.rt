@@ -1,10 +1,19 @@
-ghost use Rattle.std.specs.Prelude.{◌≡◌, ◌==◌, ◌&&◌, find, slice_get};
-ghost use Rattle.std.specs.Option.{option_copied};
-ghost use Rattle.handler_code.specs.Doors.{door_for, handlers_at, is_for, is_for_all_else, kind_of, locals_of, same_kind};
+ghost use Rattle.std.specs.Prelude.{◌≡◌, ◌+◌, ◌<◌, ◌≤◌, Some, IsSome, drop, length, position, slice_get, take};
+ghost use Rattle.std.specs.List.{flat_map};
+ghost use Rattle.handler_code.specs.Doors.{door_for, handlers_at, is_for, is_for_all_else, locals_of};
+ghost use Rattle.handler_vm.specs.Finding.{StateDoors, place_for};
+ghost use Rattle.handler_vm.specs.Order.{IsInOrder};
 
 use handler_code::{Code, Door, Kind2};
-use teapot_tree::{Checked, Handler, Param, Trigger};
+use teapot_tree::{Checked, Handler, State};
 use tw_base::Kind;
+
+/// A door of the code, and the handler that it leads to.
+#[derive(Drop)]
+pub(crate) struct Entry<'a> {
+    pub door: &'a Door,
+    pub handler: &'a Handler,
+}
 
 fn is_for(kind: Kind, on: Kind2) -> bool
     ensures { result ≡ is_for kind on }
@@ -23,85 +32,83 @@ fn is_for_all_else(on: Kind2) -> bool
     matches!(on, Kind2::Default)
 }
 
-fn opens(door: &Door, state: u8, kind: Kind) -> bool
-    ensures { result ≡ ((door.now.state == state) && is_for kind door.now.on) }
+fn own_place(kind: Kind, doors: &[Door]) -> Option<usize>
+    ensures { result ≡ position (λ d. is_for kind d.on) doors.now }
 {
-    door.state == state && is_for(kind, door.on)
+    doors.iter().position(|d| is_for(kind, d.on))
 }
 
-fn opens_for_all_else(door: &Door, state: u8) -> bool
-    ensures { result ≡ ((door.now.state == state) && is_for_all_else door.now.on) }
+fn default_place(doors: &[Door]) -> Option<usize>
+    ensures { result ≡ position (λ d. is_for_all_else d.on) doors.now }
 {
-    door.state == state && is_for_all_else(door.on)
+    doors.iter().position(|d| is_for_all_else(d.on))
 }
 
-fn own_door(doors: &[Door], state: u8, kind: Kind) -> Option<&Door>
-    ensures { option_copied result ≡ find (λ d. (d.state == state) && is_for kind d.on) doors.now }
+/// The place of the door for a message of this kind among a state's doors, else that of the default.
+fn place_for(kind: Kind, doors: &[Door]) -> Option<usize>
+    ensures { result ≡ place_for kind doors.now }
 {
-    doors.iter().find(|d| opens(d, state, kind))
-}
-
-fn default_door(doors: &[Door], state: u8) -> Option<&Door>
-    ensures { option_copied result ≡ find (λ d. (d.state == state) && is_for_all_else d.on) doors.now }
-{
-    doors.iter().find(|d| opens_for_all_else(d, state))
-}
-
-/// The state's door for a message of this kind, else its default.
-pub(crate) fn door_for(code: &Code, state: u8, kind: Kind) -> Option<Door>
-    ensures { result ≡ door_for code.now state kind }
-{
-    match own_door(code.doors.items(), state, kind) {
-        Some(door) => Some(*door),
-        None => default_door(code.doors.items(), state).copied(),
+    match own_place(kind, doors) {
+        Some(place) => Some(place),
+        None => default_place(doors),
     }
 }
 
-/// What the door of a handler is for.
-fn kind_of(p: &Checked, on: &Trigger) -> Kind2
-    ensures { result ≡ kind_of p.now on.now }
+/// How many handlers these states have.
+fn handlers_in(states: &[State]) -> usize
+    requires { length (flat_map (λ s. s.handlers) states.now) ≤ 1024 }
+    ensures { result ≡ length (flat_map (λ s. s.handlers) states.now) }
 {
-    match on {
-        Trigger::RdFault => Kind2::RdFault,
-        Trigger::WrFault => Kind2::WrFault,
-        Trigger::Named(name) => Kind2::Named(p.message_number(name).unwrap_or(0)),
-        Trigger::Default => Kind2::Default,
+    let mut count = 0;
+    for state in states {
+        count += state.handlers.len();
     }
+    count
 }
 
-fn same_kind(a: Kind2, b: Kind2) -> bool
-    ensures { result ≡ same_kind a b }
+/// So many doors from a place on.
+fn doors_from(doors: &[Door], first: usize, count: usize) -> &[Door]
+    requires { first + count ≤ length doors.now }
+    ensures { result.now ≡ take count (drop first doors.now) }
 {
-    match (a, b) {
-        (Kind2::RdFault, Kind2::RdFault) => true,
-        (Kind2::WrFault, Kind2::WrFault) => true,
-        (Kind2::Named(m), Kind2::Named(n)) => m == n,
-        (Kind2::Default, Kind2::Default) => true,
-        _ => false,
-    }
-}
-
-fn handler_in<'a>(p: &Checked, handlers: &'a [Handler], on: Kind2) -> Option<&'a Handler>
-    ensures { option_copied result ≡ find (λ h. same_kind (kind_of p.now h.on) on) handlers.now }
-{
-    handlers.iter().find(|h| same_kind(kind_of(p, &h.on), on))
+    &doors[first..first + count]
 }
 
 fn handlers_at(p: &Checked, state: u8) -> &[Handler]
+    requires { state < length p.now.states }
     ensures { result.now ≡ handlers_at (slice_get p.now.states state) }
 {
-    match p.protocol().states.get(usize::from(state)) {
-        Some(state) => state.handlers.items(),
-        None => &[],
-    }
+    p.protocol().states.items()[usize::from(state)]
+        .handlers
+        .items()
 }
 
-/// The locals of the handler that a door leads to.
-pub(crate) fn locals_of<'a>(p: &'a Checked, door: &Door) -> &'a [Param]
-    ensures { result.now ≡ locals_of p.now door.now }
+/// The doors of a state, which begin behind those of the states before it.
+fn doors_at<'a>(code: &'a Code, p: &Checked, state: u8) -> &'a [Door]
+    requires order { IsInOrder p.now code.now }
+    requires declared { state < length p.now.states }
+    ensures { StateDoors p.now code.now state (handlers_at (slice_get p.now.states state)) result.now }
 {
-    match handler_in(p, handlers_at(p, door.state), door.on) {
-        Some(handler) => handler.locals.items(),
-        None => &[],
+    let states = p.protocol().states.items();
+    let before = handlers_in(&states[..usize::from(state)]);
+    doors_from(code.doors.items(), before, handlers_at(p, state).len())
+}
+
+/// The state's door for a message of this kind, else its default, and the handler at the same place in the state.
+pub(crate) fn entry_for<'a>(code: &'a Code, p: &'a Checked, state: u8, kind: Kind) -> Entry<'a>
+    requires order { IsInOrder p.now code.now }
+    requires opens { IsSome (door_for code.now state kind) }
+    ensures door { door_for code.now state kind ≡ Some result.door.now }
+    ensures locals { result.handler.now.locals ≡ locals_of p.now result.door.now }
+    ensures declared { state < length p.now.states }
+{
+    let doors = doors_at(code, p, state);
+    let handlers = handlers_at(p, state);
+    match place_for(kind, doors) {
+        Some(place) => Entry {
+            door: &doors[place],
+            handler: &handlers[place],
+        },
+        None => unreachable!(),
     }
 }

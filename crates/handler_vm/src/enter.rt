@@ -1,12 +1,12 @@
 ghost use Rattle.std.specs.Prelude.{◌≡◌, ◌∷◌, ◌++◌, ◌+◌, ◌-◌, ◌≤◌, length, replicate};
-ghost use Rattle.tw_base.specs.declared.value.Value.TheVariants.{Int};
-ghost use Rattle.handler_code.specs.Doors.{args_taken, filled, locals_of, slots_at, zeros_of};
+ghost use Rattle.tw_base.specs.declared.value.Value.TheVariants.{Int, Node};
+ghost use Rattle.handler_code.specs.Doors.{args_taken, filled, zeros_of};
 
-use crate::doors::locals_of;
+use crate::doors::Entry;
 use crate::values::{Args, Slots};
 use handler_code::{Door, Kind2};
 use teapot_meaning::zero;
-use teapot_tree::{Checked, Param};
+use teapot_tree::Param;
 use tw_base::{Message, Value};
 
 impl Slots {
@@ -59,19 +59,20 @@ impl Slots {
 }
 
 /// The slots with which a message enters the code.
-pub(crate) fn slots_at(p: &Checked, door: &Door, args: &Args, m: &Message) -> Slots
-    requires few { door.now.slots ≤ 21 }
-    requires locals { length (locals_of p.now door.now) ≤ 8 }
+pub(crate) fn slots_at(entry: &Entry, args: &Args, m: &Message) -> Slots
+    requires few { entry.now.door.now.slots ≤ 21 }
+    requires locals { length entry.now.handler.now.locals ≤ 8 }
     requires args { length args.now ≤ 4 }
-    ensures { result ≡ slots_at p.now door.now args.now m.now }
+    ensures { result ≡ filled entry.now.door.now.slots
+        (Node m.now.from ∷ (args.now ++ (args_taken entry.now.door.now.on m.now ++ zeros_of entry.now.handler.now.locals))) }
 {
     let mut slots = Slots::new();
     slots.push(Value::Node(m.from));
     let places = args.places();
     let own = &places[..];
     slots.extend(&own[..usize::from(args.len())]);
-    slots.take_args(door, m);
-    slots.zeros(locals_of(p, door));
-    slots.fill(door.slots);
+    slots.take_args(entry.door, m);
+    slots.zeros(entry.handler.locals.items());
+    slots.fill(entry.door.slots);
     slots
 }

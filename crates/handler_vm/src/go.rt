@@ -1,7 +1,8 @@
 ghost use Rattle.std.specs.Prelude.{◌≡◌, ◌+◌, ◌^◌, ◌<◌, length, IfNone, IfSome, OnSome, slice_get};
+ghost use Rattle.handler_code.specs.Live.{HasOp};
 ghost use Rattle.handler_code.specs.Machine.{Next, Runs, Stop, Stopped, move_of};
 ghost use Rattle.handler_vm.specs.Chains.{KeepsOthers, KeepsOthersFrom, Spares};
-ghost use Rattle.handler_vm.specs.Inside.{FewArgs, IsDeep, IsSound, IsStop, SameBlock, StaysUnsent, WillStop, machine_with};
+ghost use Rattle.handler_vm.specs.Inside.{HasFew, IsAtOp, IsSound, IsStop, SameBlock, StaysUnsent, WillStop, machine_with};
 
 use crate::around::Around;
 use crate::running::Running;
@@ -10,15 +11,12 @@ use handler_code::{Code, OpCode};
 use teapot_tree::Protocol;
 use tw_base::End;
 
-fn op_at(code: &Code, at: usize) -> Option<OpCode>
-    ensures value { result ≡ slice_get code.now.ops at }
-    ensures small { IfSome result (λ op. at + 1 < 2 ^ 64) }
+fn op_at(code: &Code, at: usize) -> OpCode
+    requires { at < length code.now.ops }
+    ensures value { HasOp code.now.ops at result }
+    ensures small { at + 1 < 2 ^ 64 }
 {
-    if at < code.ops.len() {
-        code.ops.get(at).copied()
-    } else {
-        None
-    }
+    code.ops.items()[at]
 }
 
 impl Running {
@@ -30,9 +28,9 @@ impl Running {
         conts: &mut Conts,
         around: &mut Around,
     ) -> Option<End>
-        requires few_args { FewArgs p.now }
+        requires few { HasFew p.now }
         requires sound { IsSound p.now self.old conts.old }
-        requires deep { IsDeep p.now code.now self.old }
+        requires placed { IsAtOp p.now code.now self.old }
         requires stops { WillStop p.now code.now around.old.room (machine_with p.now self.old around.old conts.old) }
         ensures on { IfNone result (move_of p.now code.now (machine_with p.now self.old around.old conts.old)
             ≡ Next (machine_with p.now self.new around.new conts.new)) }
@@ -46,10 +44,8 @@ impl Running {
         ensures block { SameBlock p.now self.old self.new }
         ensures words { length self.new.words ≡ length self.old.words }
     {
-        match op_at(code, self.at) {
-            Some(op) => self.step(code, p, conts, around, op),
-            None => Some(End::Fine),
-        }
+        let op = op_at(code, self.at);
+        self.step(code, p, conts, around, op)
     }
 
     /// Runs ops until one ends the run.
@@ -60,9 +56,9 @@ impl Running {
         conts: &mut Conts,
         around: &mut Around,
     ) -> End
-        requires few_args { FewArgs p.now }
+        requires few { HasFew p.now }
         requires sound { IsSound p.now self.old conts.old }
-        requires deep { IsDeep p.now code.now self.old }
+        requires placed { IsAtOp p.now code.now self.old }
         requires stops { WillStop p.now code.now around.old.room (machine_with p.now self.old around.old conts.old) }
         ensures stop { (e : Stopped) × Runs p.now code.now (machine_with p.now self.old around.old conts.old) e
             × IsStop p.now self.new around.new.sent conts.new result e }

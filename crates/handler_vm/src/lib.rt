@@ -3,6 +3,9 @@
 //! `run` enters the code of a protocol with a message, and leaves what the machine of ops (`handler_code`) comes to: the
 //! same sends in order, the same tag, words, state and records. It takes no memory: its stack, its slots and the room for
 //! its sends are of fixed size, which `HasRoom` and `Around` answer for.
+//!
+//! It does not test whether what the code names is there: `HasRoom` says so of each operand, slot, info, message, state and
+//! rest, and `IsInOrder` says where the doors of a state stand. It tests only what a stored record names.
 #![tactic(auto)]
 
 mod around;

@@ -1,23 +1,24 @@
 ghost use Rattle.std.specs.Prelude.{◌≡◌, ◌<◌, ◌≤◌, length, Some};
 ghost use Rattle.block_tags.specs.Copies.{block_words, tag_of};
-ghost use Rattle.handler_code.specs.Doors.{door_for, entered, filled};
+ghost use Rattle.handler_code.specs.Doors.{door_for, entered, filled, locals_of};
 ghost use Rattle.handler_code.specs.Machine.{Runs, Stopped, state_arity};
 ghost use Rattle.handler_vm.specs.Chains.{IsChain, IsFull, KeepsOthers, saved_from};
 ghost use Rattle.handler_vm.specs.Inside.{begun};
 ghost use Rattle.handler_vm.specs.Leaves.{Leaves, Stops, StopsAt, kept_of};
+ghost use Rattle.handler_vm.specs.Order.{IsInOrder};
 ghost use Rattle.handler_vm.specs.Room.{HasRoom};
 ghost use Rattle.handler_vm.specs.Sending.{IsReady};
 
 use crate::around::Around;
 use crate::cell::{Cell, Ran};
-use crate::doors::door_for;
+use crate::doors::{Entry, entry_for};
 use crate::enter::slots_at;
 use crate::running::Running;
 use crate::values::{Args, Operands};
 use crate::work::state_arity;
 use block_tags::Blocks;
 use cont_store::Conts;
-use handler_code::{Code, Door, stops_once};
+use handler_code::{Code, stops_once};
 use teapot_meaning::Kept;
 use teapot_tree::Checked;
 use tw_base::{End, Message, NodeId, Value};
@@ -33,23 +34,25 @@ fn copied(infos: &[Value; 8]) -> [Value; 8]
 /// The run with which a message enters the code at a door.
 fn enter(
     p: &Checked,
-    door: &Door,
+    entry: &Entry,
     cell: &Cell,
     blocks: &Blocks,
     me: NodeId,
     home: NodeId,
     m: &Message,
 ) -> Running
-    requires few { door.now.slots ≤ 21 }
+    requires few { entry.now.door.now.slots ≤ 21 }
+    requires locals { entry.now.handler.now.locals ≡ locals_of p.now entry.now.door.now }
+    requires declared { cell.now.state < length p.now.states }
     requires block { m.now.block < blocks.now.shape.blocks }
-    ensures run { result ≡ begun p.now door.now me home (tag_of blocks.now m.now.block) (block_words blocks.now m.now.block) cell.now m.now }
+    ensures run { result ≡ begun p.now entry.now.door.now me home (tag_of blocks.now m.now.block) (block_words blocks.now m.now.block) cell.now m.now }
     ensures words { length (block_words blocks.now m.now.block) ≡ blocks.now.shape.words }
     ensures places { length cell.now.args ≡ 4 }
 {
     let args = Args::first(&cell.args, state_arity(p.protocol(), cell.state));
     Running {
-        at: door.at as usize,
-        slots: slots_at(p, door, &args, m),
+        at: entry.door.at as usize,
+        slots: slots_at(entry, &args, m),
         stack: Operands::new(),
         came: m.payload,
         me,
@@ -92,7 +95,7 @@ fn leave(r: &Running, cell: &mut Cell, end: End) -> Ran
 fn run_at(
     code: &Code,
     p: &Checked,
-    door: &Door,
+    entry: &Entry,
     cell: &mut Cell,
     blocks: &mut Blocks,
     conts: &mut Conts,
@@ -101,7 +104,9 @@ fn run_at(
     m: &Message,
     around: &mut Around,
 ) -> Ran
-    requires is_door { door_for code.now cell.old.state m.now.kind ≡ Some door.now }
+    requires is_door { door_for code.now cell.old.state m.now.kind ≡ Some entry.now.door.now }
+    requires locals { entry.now.handler.now.locals ≡ locals_of p.now entry.now.door.now }
+    requires declared { cell.old.state < length p.now.states }
     requires room { HasRoom p.now code.now }
     requires stops { Stops p.now code.now me home cell.old blocks.old conts.old m.now }
     requires chain { IsChain blocks.old.shape.words conts.old cell.old.cont }
@@ -110,14 +115,14 @@ fn run_at(
     requires block { m.now.block < blocks.old.shape.blocks }
     requires full { IsFull blocks.old.shape.words m.now.payload }
     ensures leaves { (e : Stopped)
-        × Runs p.now code.now (entered p.now door.now me home m.now.block (tag_of blocks.old m.now.block) (block_words blocks.old m.now.block) (kept_of p.now cell.old) (saved_from p.now conts.old cell.old.cont) m.now) e
+        × Runs p.now code.now (entered p.now entry.now.door.now me home m.now.block (tag_of blocks.old m.now.block) (block_words blocks.old m.now.block) (kept_of p.now cell.old) (saved_from p.now conts.old cell.old.cont) m.now) e
         × Leaves p.now me m.now cell.old cell.new blocks.old blocks.new conts.new around.new.sent result e }
     ensures chain { IsChain blocks.old.shape.words conts.new cell.new.cont }
     ensures others { KeepsOthers conts.old conts.new cell.old.cont cell.new.cont }
     ensures room { around.new.room ≡ around.old.room }
 {
     around.clear();
-    let mut r = enter(p, door, cell, blocks, me, home, m);
+    let mut r = enter(p, entry, cell, blocks, me, home, m);
     let end = r.go(code, p.protocol(), conts, around);
     blocks.set_tag(m.block, r.tag);
     blocks.install(m.block, r.words);
@@ -141,6 +146,7 @@ pub fn run(
     around: &mut Around,
 ) -> Ran
     requires room { HasRoom p.now code.now }
+    requires order { IsInOrder p.now code.now }
     requires stops { Stops p.now code.now me home cell.old blocks.old conts.old m.now }
     requires chain { IsChain blocks.old.shape.words conts.old cell.old.cont }
     requires spare { 1 ≤ conts.old.spare }
@@ -156,8 +162,6 @@ pub fn run(
     ensures room { around.new.room ≡ around.old.room }
 {
     stops_once();
-    match door_for(code, cell.state, m.kind) {
-        Some(door) => run_at(code, p, &door, cell, blocks, conts, me, home, m, around),
-        None => unreachable!(),
-    }
+    let entry = entry_for(code, p, cell.state, m.kind);
+    run_at(code, p, &entry, cell, blocks, conts, me, home, m, around)
 }

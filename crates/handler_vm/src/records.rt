@@ -5,7 +5,7 @@ ghost use Rattle.cont_store.specs.Store.{Store};
 ghost use Rattle.tw_base.specs.declared.message.Message.{Message};
 ghost use Rattle.handler_code.specs.Machine.{Next, place_of_rest, resumed, state_arity, stopped, suspended};
 ghost use Rattle.handler_vm.specs.Chains.{IsChain, KeepsOthersFrom, Spares, records_of, saved_from};
-ghost use Rattle.handler_vm.specs.Inside.{FewArgs, IsSound, IsStop, SameBlock, machine_of};
+ghost use Rattle.handler_vm.specs.Inside.{HasFew, IsSound, IsStop, SameBlock, machine_of};
 
 use crate::running::Running;
 use crate::values::{Args, Slots};
@@ -25,10 +25,20 @@ fn place_of_rest(code: &Code, rest: u32) -> usize
     }
 }
 
+/// How many arguments the state of a record has, 0 where it is not declared.
+fn saved_arity(p: &Protocol, state: u8) -> usize
+    ensures { result ≡ state_arity (slice_get p.now.states state) }
+{
+    match p.states.get(usize::from(state)) {
+        Some(s) => s.params.len(),
+        None => 0,
+    }
+}
+
 impl Running {
     /// Goes on with the newest record of the chain.
     pub(crate) fn resume(&mut self, code: &Code, p: &Protocol, conts: &mut Conts, key: RecordKey)
-        requires few_args { FewArgs p.now }
+        requires few { HasFew p.now }
         requires newest { self.old.cont ≡ Some key }
         requires sound { IsSound p.now self.old conts.old }
         ensures next { (sent : List Message) →
@@ -45,7 +55,7 @@ impl Running {
         self.came = record.came;
         self.stack.clear();
         self.state = record.state;
-        self.args = Args::first(&record.args, state_arity(p, record.state));
+        self.args = Args::first(&record.args, saved_arity(p, record.state));
         self.cont = record.parent;
         self.free();
     }
@@ -70,8 +80,10 @@ impl Running {
         state: u8,
         rest: u32,
     )
-        requires few_args { FewArgs p.now }
+        requires few { HasFew p.now }
         requires sound { IsSound p.now self.old conts.old }
+        requires declared { state < length p.now.states }
+        requires saved { rest < length code.now.rests }
         requires enough { state_arity (slice_get p.now.states state) ≤ length self.old.stack }
         requires low { length (records_of conts.old self.old.cont) < 8 }
         ensures stop { (sent : List Message) → let m = machine_of p.now self.old sent (saved_from p.now conts.old self.old.cont) in
@@ -83,10 +95,10 @@ impl Running {
     {
         let depth = self.depth(conts) + 1;
         let args = self.take(state_arity(p, state));
-        let saved = code.rests.get(rest as usize).copied();
+        let saved = &code.rests.items()[rest as usize];
         let record = Record {
             rest,
-            values: self.slots.saved(&saved),
+            values: self.slots.saved(saved),
             came: self.came,
             state: self.state,
             args: self.args.places(),

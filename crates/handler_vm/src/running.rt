@@ -5,7 +5,6 @@ ghost use Rattle.handler_code.specs.Machine.{below, landing, top, value_at};
 use crate::values::{Args, Operands, Slots};
 use cont_store::RecordKey;
 use teapot_meaning::{Kept, free};
-use teapot_tree::Protocol;
 use tw_base::{BlockId, Data, NodeId, Tag, Value};
 
 /// A run under way: what the machine of ops has, but for its sends and its records, of which it has the newest's key.
@@ -50,6 +49,7 @@ impl Running {
     }
 
     pub(crate) fn pop(&mut self) -> Value
+        requires { 0 < length self.old.stack }
         ensures value { result ≡ top self.old.stack }
         ensures rest { self.new ≡ record self.old { stack = below self.old.stack } }
         ensures len { length self.new.stack ≡ length self.old.stack - 1 }
@@ -58,27 +58,25 @@ impl Running {
     }
 
     pub(crate) fn take(&mut self, count: usize) -> Args
-        requires { count ≤ 4 }
+        requires few { count ≤ 4 }
+        requires enough { count ≤ length self.old.stack }
         ensures args { result ≡ reverse (take count self.old.stack) }
         ensures rest { self.new ≡ record self.old { stack = drop count self.old.stack } }
     {
         self.stack.take(count)
     }
 
-    pub(crate) fn info(&self, p: &Protocol, k: u8) -> Value
-        ensures { result ≡ value_at (take (length p.now.infos) self.now.infos) k }
+    pub(crate) fn info(&self, k: u8) -> Value
+        requires { k < 8 }
+        ensures { result ≡ value_at self.now.infos k }
     {
-        let k = usize::from(k);
-        let infos = &self.infos[..];
-        if k < p.infos.len() && k < infos.len() {
-            infos[k]
-        } else {
-            Value::Int(0)
-        }
+        self.infos[usize::from(k)]
     }
 
     /// The value on the stack becomes that of a slot.
     pub(crate) fn put(&mut self, k: u8)
+        requires enough { 0 < length self.old.stack }
+        requires there { k < length self.old.slots }
         ensures { self.new ≡ record self.old { slots = slice_set self.old.slots k (top self.old.stack); stack = below self.old.stack } }
     {
         let value = self.stack.pop();
@@ -86,16 +84,13 @@ impl Running {
     }
 
     /// The value on the stack becomes that of an info.
-    pub(crate) fn put_info(&mut self, p: &Protocol, k: u8)
-        ensures stack { self.new ≡ record self.old { infos = self.new.infos; stack = below self.old.stack } }
-        ensures infos { take (length p.now.infos) self.new.infos ≡ slice_set (take (length p.now.infos) self.old.infos) k (top self.old.stack) }
-        ensures others { drop (length p.now.infos) self.new.infos ≡ drop (length p.now.infos) self.old.infos }
+    pub(crate) fn put_info(&mut self, k: u8)
+        requires enough { 0 < length self.old.stack }
+        requires there { k < 8 }
+        ensures { self.new ≡ record self.old { infos = slice_set self.old.infos k (top self.old.stack); stack = below self.old.stack } }
     {
         let value = self.stack.pop();
-        let k = usize::from(k);
-        if k < p.infos.len() && k < 8 {
-            self.infos[k] = value;
-        }
+        self.infos[usize::from(k)] = value;
     }
 
     pub(crate) fn jump(&mut self, to: u32)
@@ -106,6 +101,7 @@ impl Running {
 
     /// Jumps unless True is on the stack.
     pub(crate) fn jump_if_not(&mut self, to: u32)
+        requires { 0 < length self.old.stack }
         ensures { self.new ≡ record self.old { at = landing (top self.old.stack) self.old.at to; stack = below self.old.stack } }
     {
         match self.stack.pop() {

@@ -2,33 +2,42 @@ ghost use Rattle.std.specs.Prelude.{◌≡◌, [], ◌∷◌, ◌++◌, ◌+◌,
 ghost use Rattle.teapot_meaning.specs.Depth.{nodes_in};
 ghost use Rattle.teapot_meaning.specs.Steps.{node_of, out_to, payload_of, set_of};
 ghost use Rattle.handler_code.specs.Machine.{below, message_arity, top};
-ghost use Rattle.handler_vm.specs.Inside.{FewArgs, StaysUnsent};
+ghost use Rattle.handler_vm.specs.Inside.{HasFew, StaysUnsent};
 ghost use Rattle.handler_vm.specs.Sending.{IsUnsent, chan_in, out_of};
 
 use crate::around::Around;
 use crate::running::Running;
 use crate::sets::node;
 use crate::values::Args;
-use teapot_meaning::{node as node_in, payload, set_of};
+use teapot_meaning::{node as node_in, set_of};
 use teapot_tree::Protocol;
 use tw_base::{Chan, Data, Kind, Message, NodeId, NodeSet};
 
-/// How many arguments a message has, 0 where it is not declared.
+/// How many arguments a message has.
 fn message_arity(p: &Protocol, number: u8) -> usize
+    requires { number < length p.now.messages }
     ensures { result ≡ message_arity (slice_get p.now.messages number) }
 {
-    match p.messages.get(usize::from(number)) {
-        Some(m) => m.args.len(),
-        None => 0,
-    }
+    p.messages.items()[usize::from(number)].args.len()
 }
 
 fn chan(p: &Protocol, number: u8) -> Chan
+    requires { number < length p.now.messages }
     ensures { result ≡ chan_in (slice_get p.now.messages number) }
 {
-    match p.messages.get(usize::from(number)) {
-        Some(m) => m.chan,
-        None => Chan::Zero,
+    p.messages.items()[usize::from(number)].chan
+}
+
+/// The data of a message: the words, where it carries them.
+#[tactic(auto, unfolding(teapot_meaning::specs::Steps::payload_of))]
+fn payload(p: &Protocol, number: u8, words: &Data) -> Option<Data>
+    requires { number < length p.now.messages }
+    ensures { result ≡ payload_of (slice_get p.now.messages number) words.now }
+{
+    if p.messages.items()[usize::from(number)].carries {
+        Some(*words)
+    } else {
+        None
     }
 }
 
@@ -42,6 +51,7 @@ impl Running {
         args: &Args,
         payload: &Option<Data>,
     ) -> Message
+        requires { number < length p.now.messages }
         ensures out { out_of result ≡ out_to number args.now payload.now to }
         ensures unsent { IsUnsent p.now self.now.me self.now.block result }
     {
@@ -62,7 +72,9 @@ impl Running {
 
     /// Sends to the node below the arguments on the stack.
     pub(crate) fn send(&mut self, p: &Protocol, number: u8, around: &mut Around)
-        requires args { FewArgs p.now }
+        requires few { HasFew p.now }
+        requires declared { number < length p.now.messages }
+        requires enough { message_arity (slice_get p.now.messages number) + 1 ≤ length self.old.stack }
         requires room { length around.old.sent < around.old.room }
         ensures stack { let count = message_arity (slice_get p.now.messages number)
             in self.new ≡ record self.old { stack = below (drop count self.old.stack) } }
@@ -80,7 +92,9 @@ impl Running {
 
     /// Sends to each node of the set below the arguments on the stack.
     pub(crate) fn send_all(&mut self, p: &Protocol, number: u8, around: &mut Around)
-        requires args { FewArgs p.now }
+        requires few { HasFew p.now }
+        requires declared { number < length p.now.messages }
+        requires enough { message_arity (slice_get p.now.messages number) + 1 ≤ length self.old.stack }
         requires room { let count = message_arity (slice_get p.now.messages number)
             in length around.old.sent + length (nodes_in (set_of (top (drop count self.old.stack)))) ≤ around.old.room }
         ensures stack { let count = message_arity (slice_get p.now.messages number)
@@ -107,7 +121,8 @@ impl Running {
         payload: &Option<Data>,
         around: &mut Around,
     )
-        requires { length around.old.sent + length (nodes_in set) ≤ around.old.room }
+        requires declared { number < length p.now.messages }
+        requires room { length around.old.sent + length (nodes_in set) ≤ around.old.room }
         ensures sent { map out_of around.new.sent ≡ map out_of around.old.sent ++ map (out_to number args.now payload.now) (nodes_in set) }
         ensures unsent { StaysUnsent p.now self.now around.old around.new }
         ensures room { around.new.room ≡ around.old.room }

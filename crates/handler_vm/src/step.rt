@@ -2,8 +2,8 @@ ghost use Rattle.std.specs.Prelude.{◌≡◌, ◌+◌, ◌^◌, ◌<◌, ◌≤
 ghost use Rattle.tw_base.specs.declared.message.Message.{Message};
 ghost use Rattle.handler_code.specs.Machine.{Next, Stop, Stopped, act, state_arity};
 ghost use Rattle.handler_vm.specs.Chains.{KeepsOthersFrom, Spares, saved_from};
-ghost use Rattle.handler_vm.specs.Inside.{FewArgs, IsSound, IsStop, OnNext, SameBlock, StaysUnsent, machine_of, machine_with};
-ghost use Rattle.handler_vm.specs.Room.{put_by, taken_by};
+ghost use Rattle.handler_vm.specs.Inside.{HasFew, IsSound, IsStop, OnNext, SameBlock, StaysUnsent, machine_of, machine_with};
+ghost use Rattle.handler_vm.specs.Room.{IsThere, put_by, taken_by};
 
 use crate::around::Around;
 use crate::running::Running;
@@ -15,10 +15,12 @@ use tw_base::End;
 impl Running {
     /// Saves the run, unless the chain has eight records.
     fn leave(&mut self, code: &Code, p: &Protocol, conts: &mut Conts, state: u8, rest: u32) -> End
-        requires few_args { FewArgs p.now }
+        requires few { HasFew p.now }
         requires place { self.old.at + 1 < 2 ^ 64 }
         requires ops { self.old.ops + 1 < 2 ^ 64 }
         requires sound { IsSound p.now self.old conts.old }
+        requires declared { state < length p.now.states }
+        requires saved { rest < length code.now.rests }
         requires enough { state_arity (slice_get p.now.states state) ≤ length self.old.stack }
         ensures stop { (sent : List Message) → let m = machine_of p.now self.old sent (saved_from p.now conts.old self.old.cont) in
             (e : Stopped) × (act p.now code.now (OpCode.Suspend state rest) m ≡ Stop e) × IsStop p.now self.new sent conts.new result e }
@@ -43,12 +45,13 @@ impl Running {
         around: &mut Around,
         op: OpCode,
     ) -> Option<End>
-        requires few_args { FewArgs p.now }
+        requires few { HasFew p.now }
         requires place { self.old.at + 1 < 2 ^ 64 }
         requires ops { self.old.ops + 1 < 2 ^ 64 }
         requires sound { IsSound p.now self.old conts.old }
         requires most { length self.old.stack ≤ 24 }
         requires enough { taken_by p.now op ≤ length self.old.stack }
+        requires there { IsThere p.now code.now (length self.old.slots) op }
         requires fits { length self.old.stack + put_by op ≤ 24 + taken_by p.now op }
         requires room { OnNext (λ n. length n.around.sends ≤ around.old.room) (act p.now code.now op (machine_with p.now self.old around.old conts.old)) }
         ensures on { IfNone result (act p.now code.now op (machine_with p.now self.old around.old conts.old)

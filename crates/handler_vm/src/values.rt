@@ -1,22 +1,18 @@
-ghost use Rattle.std.specs.Prelude.{◌≡◌, [], ◌∷◌, ◌++◌, ◌<◌, ◌≤◌, ◌-◌, drop, length, replicate, reverse, slice_set, take};
+ghost use Rattle.std.specs.Prelude.{◌≡◌, [], ◌∷◌, ◌++◌, ◌<◌, ◌≤◌, ◌-◌, Some, drop, length, replicate, reverse, slice_set, take};
 ghost use Rattle.tw_base.specs.declared.value.Value.TheVariants.{Int};
 ghost use Rattle.handler_code.specs.Doors.{filled};
-ghost use Rattle.handler_code.specs.Machine.{below, saved_values, top, value_at};
-ghost use Rattle.handler_vm.specs.Places.{keeps};
+ghost use Rattle.handler_code.specs.Machine.{below, is_live, saved_values, top, value_at};
 
 use handler_code::Rest;
 use std::marker::Model;
 use tw_base::Value;
 
-/// Whether a slot is kept for a rest; all are where there is none.
-fn keeps(rest: &Option<Rest>, k: usize) -> bool
+/// Whether a rest reads a slot.
+fn is_live(rest: &Rest, k: usize) -> bool
     requires { k < 32 }
-    ensures { result ≡ keeps rest.now k }
+    ensures { result ≡ is_live rest.now k }
 {
-    match rest {
-        Some(rest) => rest.live >> k & 1 == 1,
-        None => true,
-    }
+    rest.live >> k & 1 == 1
 }
 
 /// The slots of a handler, at most 21.
@@ -71,34 +67,28 @@ impl Slots {
     }
 
     pub(crate) fn get(&self, k: u8) -> Value
+        requires { k < length self.now }
         ensures { result ≡ value_at self.now k }
     {
-        let k = usize::from(k);
-        if k < self.width {
-            self.values[k]
-        } else {
-            Value::Int(0)
-        }
+        self.values[usize::from(k)]
     }
 
     pub(crate) fn set(&mut self, k: u8, value: Value)
+        requires { k < length self.old }
         ensures { self.new ≡ slice_set self.old k value }
     {
-        let k = usize::from(k);
-        if k < self.width {
-            self.values[k] = value;
-        }
+        self.values[usize::from(k)] = value;
     }
 
     /// The values that a rest reads, and 0 in the other places.
-    pub(crate) fn saved(&self, rest: &Option<Rest>) -> [Value; 21]
-        ensures value { result ≡ filled 21 (saved_values rest.now self.now) }
+    pub(crate) fn saved(&self, rest: &Rest) -> [Value; 21]
+        ensures value { result ≡ filled 21 (saved_values (Some rest.now) self.now) }
         ensures all { length result ≡ 21 }
     {
         let own = &self.values[..];
         let mut values = [Value::Int(0); 21];
         for k in 0..self.width {
-            if keeps(rest, k) {
+            if is_live(rest, k) {
                 values[k] = own[k];
             }
         }
@@ -142,27 +132,26 @@ impl Operands {
         self.len += 1;
     }
 
-    /// Takes the top, 0 where there is none.
+    /// Takes the top.
     pub(crate) fn pop(&mut self) -> Value
+        requires { 0 < length self.old }
         ensures value { result ≡ top self.old }
         ensures rest { self.new ≡ below self.old }
         ensures len { length self.new ≡ length self.old - 1 }
     {
-        if self.len == 0 {
-            return Value::Int(0);
-        }
         self.len -= 1;
         self.values[self.len]
     }
 
     /// Takes as many of the topmost values as are asked for, and gives them in the order in which they were pushed.
     pub(crate) fn take(&mut self, count: usize) -> Args
-        requires { count ≤ 4 }
+        requires few { count ≤ 4 }
+        requires enough { count ≤ length self.old }
         ensures args { result ≡ reverse (take count self.old) }
         ensures rest { self.new ≡ drop count self.old }
     {
         let end = self.len;
-        let start = if count <= end { end - count } else { 0 };
+        let start = end - count;
         self.len = start;
         let all = &self.values[..];
         Args::of(&all[start..end])

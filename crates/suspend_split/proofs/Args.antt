@@ -1,5 +1,5 @@
 -- The code of a list of expressions leaves their values, the last one on top.
-use Rattle.std.proofs.Common.{◌≡◌, ℕ, suc, List, [], ◌∷◌, ◌++◌, length, refl, sym, ap, ◌∙◌, reverse, take, drop, append_assoc}
+use Rattle.std.proofs.Common.{◌≡◌, ℕ, suc, ◌+◌, List, [], ◌∷◌, ◌++◌, length, refl, sym, ap, ◌∙◌, reverse, take, drop, append_assoc}
 use Rattle.std.specs.Prelude.{map}
 use Rattle.std.proofs.lemmas.List.{reverse-append, reverse-reverse, length-reverse}
 use Rattle.std.proofs.Math.Seq.{take-append_seam, drop-append_seam}
@@ -15,7 +15,7 @@ use Rattle.handler_code.specs.declared.code.OpCode.{OpCode}
 use Rattle.handler_code.specs.Machine.{Machine}
 use Rattle.suspend_split.specs.Follows.{Loop, EvaluatesAll, none, more}
 use Rattle.suspend_split.specs.Stands.{Agrees, around_of, names_of}
-use Rattle.suspend_split.proofs.Exprs.{Comes, after_expr, expr_yields}
+use Rattle.suspend_split.proofs.Exprs.{Comes, after_expr, both_straight, expr_yields}
 
 reverse_more : (x : Value) (xs s : List Value) → reverse xs ++ (x ∷ s) ≡ reverse (x ∷ xs) ++ s
 reverse_more x xs s = sym (append_assoc (reverse xs) (x ∷ []) s) ∙ ap (λ l. l ++ s) (sym (reverse-append (x ∷ []) xs))
@@ -40,10 +40,11 @@ after_all p names ops width loops slots vars (more x y) g = after_all p names op
 
 pub record YieldsAll (p : Protocol) (code : Code) (m : Machine) (at after : ℕ) (xs : List Value) : Type 0 where
   pub ops : ℕ
+  pub straight : ops + at ≡ m.ops + after
   pub comes : Comes p code (record m { at = at }) (record m { at = after; stack = reverse xs ++ m.stack; ops = ops })
 
 pub all_yield : (p : Protocol) (code : Code) (width : ℕ) (loops : List Loop) (r : Running) {at after : ℕ} {es : List Expr} (m : Machine) → EvaluatesAll p (names_of r.vars) code.ops at es after → Agrees code.ops width at m.slots r.vars loops → m.around ≡ around_of r → YieldsAll p code m at after (map (value_of p r) es)
-all_yield p code width loops r m none g i = record { ops = m.ops; comes = λ s z. z }
+all_yield p code width loops r m none g i = record { ops = m.ops; straight = refl; comes = λ s z. z }
 all_yield p code width loops r m (more {at = at} {middle = middle} {after = after} {e = e} {es = es} x y) g i =
     let f = expr_yields p code width loops r m x g i in
     let n : Machine = record m { at = middle; stack = value_of p r e ∷ m.stack; ops = f.ops } in
@@ -51,5 +52,6 @@ all_yield p code width loops r m (more {at = at} {middle = middle} {after = afte
     let xs = map (value_of p r) es in
     record {
       ops = k.ops;
+      straight = both_straight f.ops k.ops m.ops at middle after f.straight k.straight;
       comes = λ s z. f.comes s (k.comes s (rw reverse_more z));
     }

@@ -1,5 +1,5 @@
--- What a message means at a block, the code does.
-use Rattle.std.proofs.Common.{◌≡◌, ◌∙◌, ℕ, zero, suc, ◌+◌, ◌-◌, ◌<◌, ◌≤◌, true, List, [], ◌∷◌, ◌++◌, length, length-append, refl, ap, sym, subst, arith, inl, inr, ◌⊎◌}
+-- What a message means at a block, the code does, and soon.
+use Rattle.std.proofs.Common.{◌≡◌, ◌∙◌, ℕ, zero, suc, ◌+◌, ◌*◌, ◌-◌, ◌<◌, ◌≤◌, true, List, [], ◌∷◌, ◌++◌, Some, length, length-append, refl, ap, sym, subst, arith, inl, inr, ◌⊎◌}
 use Rattle.std.specs.Prelude.{codes, map, replicate, take, Contains}
 use Rattle.std.specs.Str.{bytes_eq}
 use Rattle.std.proofs.lemmas.List.{length-map}
@@ -17,30 +17,33 @@ use Rattle.teapot_tree.specs.declared.protocol.Trigger.{Trigger}
 use Rattle.teapot_tree.specs.declared.protocol.Trigger.TheVariants as t
 use Rattle.teapot_tree.specs.Rules.{IsAccepted, is_default}
 use Rattle.teapot_tree.specs.Scopes.{args_of, taken_message}
+use Rattle.teapot_tree.specs.declared.stmt.Stmt.{Stmt}
 use Rattle.teapot_meaning.specs.declared.state.Bound.{Bound}
 use Rattle.teapot_meaning.specs.declared.state.Ended.{Ended}
 use Rattle.teapot_meaning.specs.declared.state.Here.{Here}
+use Rattle.teapot_meaning.specs.declared.state.Running.{Running}
 use Rattle.teapot_meaning.specs.declared.state.StateVal.{out-StateVal}
-use Rattle.teapot_meaning.specs.Does.{bound, local_of, started, vars_of, zero_of}
-use Rattle.teapot_meaning.specs.Fits.{IsMessageOf, IsOf, StateFits, declared_as, fits_below, names_in, type_of, types_of}
-use Rattle.teapot_meaning.specs.Goes.{Goes}
+use Rattle.teapot_meaning.specs.Does.{Does, bound, local_of, started, vars_of, zero_of}
+use Rattle.teapot_meaning.specs.Fits.{Fits, IsMessageOf, IsOf, StateFits, declared_as, fits_below, names_in, type_of, types_of}
 use Rattle.teapot_meaning.specs.Handlers.{answers}
 use Rattle.teapot_meaning.proofs.Found.{slice_has}
 use Rattle.teapot_meaning.proofs.Starting.{Takes, bound_named, found_at, locals_named, taker, takes}
+use Rattle.teapot_sends.specs.Counts.{steps}
 use Rattle.handler_code.specs.declared.code.Code.{Code}
+use Rattle.handler_code.specs.declared.code.Door.{Door}
 use Rattle.handler_code.specs.declared.code.OpCode.{OpCode}
 use Rattle.handler_code.specs.declared.code.OpCode.TheVariants as op
 use Rattle.handler_code.specs.Doors.{Cell, args_taken, door_for, entered, filled, kind_of, locals_of, slots_at, zeros_of}
-use Rattle.handler_code.specs.Machine.{Around, Machine, Saved, value_at}
+use Rattle.handler_code.specs.Machine.{Around, Machine, Runs, Saved, StopsOnce, value_at}
 use Rattle.suspend_split.specs.Compiled.{loops_in, rests_in}
 use Rattle.suspend_split.specs.Follows.{Follows}
-use Rattle.suspend_split.specs.Stands.{Agrees, EndsAlike, around_of, names_of, values_of}
-use Rattle.suspend_split.specs.Whole.{CellStands, DoesWhatIsMeant, EntersAlike, IsCode, entries_code, entry_code}
+use Rattle.suspend_split.specs.Stands.{Agrees, SavesAll, Stands, around_of, names_of, ops_a_step, values_of}
+use Rattle.suspend_split.specs.Whole.{CellStands, DoesWhatIsMeant, IsCode, TakesFewOpsAt, entries_code, entry_code}
 use Rattle.suspend_split.proofs.Accepted.{all_fine}
 use Rattle.suspend_split.proofs.Doors.{DoorOf, door_of_handler, entry}
 use Rattle.suspend_split.proofs.Handlers.{body_code, entry_follows}
 use Rattle.suspend_split.proofs.Placed.{loops_in-append}
-use Rattle.suspend_split.proofs.Steps.{simulation}
+use Rattle.suspend_split.proofs.Steps.{simulation, takes_few}
 use Rattle.suspend_split.proofs.Vars.{length-values, length_of_names}
 
 -- ---- the values of variables
@@ -157,6 +160,12 @@ agrees ops at width vars = record {
 
 -- ---- the message at the door
 
+-- the message's machine stands at a door before these statements
+record AtDoor (p : Protocol) (code : Code) (here : Here) (cell : Cell) (chain : List Saved) (m : Message) (stmts : List Stmt) (r : Running) : Type 0 where
+  door : Door
+  is_door : door_for code cell.state m.kind ≡ Some door
+  stands : Stands p code (entered p door here.me here.home here.block here.tag here.words cell chain m) stmts r
+
 module _ (p : Protocol) (code : Code) (a : IsAccepted p) (compiled : IsCode p code) where
   -- the code of a handler, from the place of its door on
   handler_follows : (s : State) (h : Handler) (number : ℕ) (k : Kind) (d : DoorOf p code k number s h) (width : ℕ) → width ≡ loops_in (entry_code p (entry number s h) (length (entries_code p d.before)) (rests_in (entries_code p d.before)) 0) → Follows p (names_in s h) (length (names_in s h) + width) code (length (entries_code p d.before)) h.body []
@@ -164,7 +173,7 @@ module _ (p : Protocol) (code : Code) (a : IsAccepted p) (compiled : IsCode p co
       let room : loops_in (body_code p d.before (entry number s h)) ≤ width = omega (arith, e, loops_in-append (body_code p d.before (entry number s h)) (op.Done ∷ [])) in
       entry_follows p code compiled (all_fine p a) d.before d.after (entry number s h) d.are width room
 
-  module _ (here : Here) (cell : Cell) (chain : List Saved) (m : Message) (e : Ended) (stands : CellStands p code cell chain here) (s : State) (h : Handler) (few : map type_of (out-StateVal here.state).args ≡ types_of s.params) (choice : (answers p m.kind h.on ≡ true) ⊎ (is_default h.on ≡ true)) (gets : Takes p h.on h.args (length here.words) (take m.arg_count m.args) m.payload) (is : IsMessageOf p (length here.words) m) (d : DoorOf p code m.kind (out-StateVal here.state).state s h) where
+  module _ (here : Here) (cell : Cell) (chain : List Saved) (m : Message) (stands : CellStands p code cell chain here) (s : State) (h : Handler) (few : map type_of (out-StateVal here.state).args ≡ types_of s.params) (choice : (answers p m.kind h.on ≡ true) ⊎ (is_default h.on ≡ true)) (gets : Takes p h.on h.args (length here.words) (take m.arg_count m.args) m.payload) (is : IsMessageOf p (length here.words) m) (d : DoorOf p code m.kind (out-StateVal here.state).state s h) where
     number : ℕ
     number = (out-StateVal here.state).state
 
@@ -213,38 +222,27 @@ module _ (p : Protocol) (code : Code) (a : IsAccepted p) (compiled : IsCode p co
         let with_infos : List Value → Around = λ infos. record (around_of (started s h here m)) { infos = infos } in
         ap with_infos stands.infos
 
-    does : Goes p h.body (started s h here m) e → EndsAlike p code at_door e
+    door_stands : AtDoor p code here cell chain m h.body (started s h here m)
     unfolding at_door
-    does goes =
-        simulation p code (λ r k rest g x. (compiled.live r k rest g).1 x) at_door h.body (started s h here m) e (record {
-          width = length (names_of (vars_of s h here m)) + loops_in ops;
-          loops = [];
-          follows = follows;
-          carries = record {
-            vars = subst (λ l. Agrees code.ops (length (names_of (vars_of s h here m)) + loops_in ops) d.door.at l (vars_of s h here m) []) (sym slots) (agrees code.ops d.door.at (loops_in ops) (vars_of s h here m));
-            around = around;
-            came = refl;
-            state = stands.state;
-          };
-        }) goes
+    door_stands = record {
+      door = d.door;
+      is_door = ap (λ n. door_for code n m.kind) stands.state.same_state ∙ d.found;
+      stands = record {
+        width = length (names_of (vars_of s h here m)) + loops_in ops;
+        loops = [];
+        follows = follows;
+        carries = record {
+          vars = subst (λ l. Agrees code.ops (length (names_of (vars_of s h here m)) + loops_in ops) d.door.at l (vars_of s h here m) []) (sym slots) (agrees code.ops d.door.at (loops_in ops) (vars_of s h here m));
+          around = around;
+          came = refl;
+          state = stands.state;
+        };
+      };
+    }
 
-    enters : Goes p h.body (started s h here m) e → EntersAlike p code here cell chain m e
-    unfolding at_door
-    enters goes =
-        let x = does goes in
-        record {
-          stopped = x.stopped;
-          enters = record {
-            door = d.door;
-            is_door = ap (λ n. door_for code n m.kind) stands.state.same_state ∙ d.found;
-            runs = x.runs;
-          };
-          stands = x.stands;
-        }
-
-  pub what_is_meant : DoesWhatIsMeant p code
+  at_its_door : (here : Here) (cell : Cell) (chain : List Saved) (m : Message) (e : Ended) → Fits p here → IsMessageOf p (length here.words) m → CellStands p code cell chain here → (does : Does p here m e) → AtDoor p code here cell chain m does.handler.body (started does.state does.handler here m)
   unfolding fits_below
-  what_is_meant here cell chain m e fits is stands does =
+  at_its_door here cell chain m e fits is stands does =
       let count = length here.words in
       let s = does.state in
       let h = does.handler in
@@ -255,7 +253,30 @@ module _ (p : Protocol) (code : Code) (a : IsAccepted p) (compiled : IsCode p co
       let few : map type_of (out-StateVal here.state).args ≡ types_of s.params = subst (λ z. map type_of (out-StateVal here.state).args ≡ types_of z.params) same fit.args in
       let gets = takes p a m.kind s h count (take m.arg_count m.args) m.payload i took.0 took.1 is in
       let d = door_of_handler p code a compiled m.kind (out-StateVal here.state).state s does.is_state h does.is_handler in
-      enters here cell chain m e stands s h few took.1 gets is d does.goes
+      door_stands here cell chain m stands s h few took.1 gets is d
+
+  -- each rest saves what it reads
+  saves_all : SavesAll code
+  saves_all r k rest is first = (compiled.live r k rest is).1 first
+
+  pub what_is_meant : DoesWhatIsMeant p code
+  what_is_meant here cell chain m e fits is stands does =
+      let x = at_its_door here cell chain m e fits is stands does in
+      let start = entered p x.door here.me here.home here.block here.tag here.words cell chain m in
+      let y = simulation p code saves_all start does.handler.body (started does.state does.handler here m) e x.stands does.goes in
+      record { stopped = y.stopped; enters = record { door = x.door; is_door = x.is_door; runs = y.runs }; stands = y.stands }
+
+  pub what_is_meant_soon : StopsOnce p code → TakesFewOpsAt p code
+  what_is_meant_soon once here cell chain m e s fits is stands does goes_in =
+      let x = at_its_door here cell chain m e fits is stands does in
+      let same : goes_in.door ≡ x.door = cc (goes_in.is_door, x.is_door) in
+      let start : Door → Machine = λ door. entered p door here.me here.home here.block here.tag here.words cell chain m in
+      let runs : Runs p code (start x.door) s = subst (λ q. Runs p code (start q) s) same goes_in.runs in
+      let few : s.ops ≤ 0 + ops_a_step code * steps does.goes = takes_few p code once saves_all (start x.door) does.handler.body (started does.state does.handler here m) e s x.stands does.goes runs in
+      omega arith
 
 pub meant : (p : Protocol) (code : Code) → IsAccepted p → IsCode p code → DoesWhatIsMeant p code
 meant p code a compiled = what_is_meant p code a compiled
+
+pub meant_soon : (p : Protocol) (code : Code) → StopsOnce p code → IsAccepted p → IsCode p code → TakesFewOpsAt p code
+meant_soon p code once a compiled = what_is_meant_soon p code a compiled once

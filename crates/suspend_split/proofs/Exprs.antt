@@ -89,9 +89,20 @@ atom_leads p names (Expr-F.Not a) o at e = cc
 atom_leads p names (Expr-F.Count a) o at e = cc
 atom_leads p names (Expr-F.Two t a b) o at e = cc
 
--- the machine at the first place comes to the second, with a value more
+-- an op is counted as it is passed
+one_op : (n at : ℕ) → n + 1 + at ≡ n + (at + 1)
+one_op n at = omega arith
+
+one_more : (ops at start after : ℕ) → ops + at ≡ start + after → ops + 1 + at ≡ start + (after + 1)
+one_more ops at start after e = omega arith
+
+pub both_straight : (first all start at middle after : ℕ) → first + at ≡ start + middle → all + middle ≡ first + after → all + at ≡ start + after
+both_straight first all start at middle after e f = omega arith
+
+-- the machine at the first place comes to the second, with a value more and an op counted for each place passed
 pub record Yields (p : Protocol) (code : Code) (m : Machine) (at after : ℕ) (x : Value) : Type 0 where
   pub ops : ℕ
+  pub straight : ops + at ≡ m.ops + after
   pub comes : Comes p code (record m { at = at }) (record m { at = after; stack = x ∷ m.stack; ops = ops })
 
 pub after_expr : (p : Protocol) (names : List Name) (ops : List OpCode) (width : ℕ) (loops : List Loop) {at after : ℕ} {e : Expr} (slots : List Value) (vars : List Bound) → Evaluates p names ops at e after → Agrees ops width at slots vars loops → Agrees ops width after slots vars loops
@@ -111,19 +122,19 @@ module _ (p : Protocol) (code : Code) (width : ℕ) (loops : List Loop) where
   get_yields : (r : Running) (m : Machine) (at : ℕ) (name : Name) (i j : Option ℕ) → slot_of (names_of r.vars) name ≡ i → info_number p name ≡ j → HasOp code.ops at (get_op i j) → Agrees code.ops width at m.slots r.vars loops → m.around ≡ around_of r → Yields p code m at (at + 1) (variable p r name)
   get_yields r m at name (Some k) j e f h g a =
       let same : value_at m.slots k ≡ variable p r name = g.live k (place_within r.vars name k (slot-place name r.vars ∙ e)) (reads h refl) ∙ sym (variable-slot p r name k e) in
-      subst (Yields p code m at (at + 1)) same (record { ops = m.ops + 1; comes = one p code (op.Get k) (record m { at = at }) _ h refl })
+      subst (Yields p code m at (at + 1)) same (record { ops = m.ops + 1; straight = one_op m.ops at; comes = one p code (op.Get k) (record m { at = at }) _ h refl })
   get_yields r m at name None (Some i) e f h g a =
       let same : value_at m.around.infos i ≡ variable p r name = ap (λ x. value_at x.infos i) a ∙ sym (variable-info p r name e ∙ ap (info_at r.here.infos) f) in
-      subst (Yields p code m at (at + 1)) same (record { ops = m.ops + 1; comes = one p code (op.GetInfo i) (record m { at = at }) _ h refl })
+      subst (Yields p code m at (at + 1)) same (record { ops = m.ops + 1; straight = one_op m.ops at; comes = one p code (op.GetInfo i) (record m { at = at }) _ h refl })
   get_yields r m at name None None e f h g a =
       let same : v.Int 0 ≡ variable p r name = sym (variable-info p r name e ∙ ap (info_at r.here.infos) f) in
-      subst (Yields p code m at (at + 1)) same (record { ops = m.ops + 1; comes = one p code (op.Const (v.Int 0)) (record m { at = at }) _ h refl })
+      subst (Yields p code m at (at + 1)) same (record { ops = m.ops + 1; straight = one_op m.ops at; comes = one p code (op.Const (v.Int 0)) (record m { at = at }) _ h refl })
 
   -- an op that only pushes a value
   push_yields : (m : Machine) (at : ℕ) (a o : OpCode) (x : Value) → Some a ≡ Some o → HasOp code.ops at o → act p code a (record m { at = at }) ≡ Next (pushed (record m { at = at }) m.stack x) → Yields p code m at (at + 1) x
   push_yields m at a o x e h w =
       let same : o ≡ a = cc in
-      record { ops = m.ops + 1; comes = one p code a (record m { at = at }) _ (subst (HasOp code.ops at) same h) w }
+      record { ops = m.ops + 1; straight = one_op m.ops at; comes = one p code a (record m { at = at }) _ (subst (HasOp code.ops at) same h) w }
 
   step_value : Running → Expr-F Expr → Value
   step_value r l = value_step p r (map-Expr Expr Value (value_of p r) l)
@@ -158,7 +169,7 @@ module _ (p : Protocol) (code : Code) (width : ℕ) (loops : List Loop) where
   unary_yields : (r : Running) (m : Machine) (at after : ℕ) (e a : Expr) (l : Expr-F Expr) (o : OpCode) → out-Expr e ≡ l → HasOp code.ops after o → Yields p code m at after (value_of p r a) → ((n : ℕ) → act p code o (record m { at = after; stack = value_of p r a ∷ m.stack; ops = n }) ≡ Next (record m { at = after + 1; stack = step_value r l ∷ m.stack; ops = n + 1 })) → Yields p code m at (after + 1) (value_of p r e)
   unary_yields r m at after e a l o d h y does =
       let n : Machine = record m { at = after; stack = value_of p r a ∷ m.stack; ops = y.ops } in
-      subst (Yields p code m at (after + 1)) (layer_value r e l d) (record { ops = y.ops + 1; comes = λ s z. y.comes s (one p code o n _ h (does y.ops) s z) })
+      subst (Yields p code m at (after + 1)) (layer_value r e l d) (record { ops = y.ops + 1; straight = one_more y.ops at m.ops after y.straight; comes = λ s z. y.comes s (one p code o n _ h (does y.ops) s z) })
 
   pub expr_yields : (r : Running) {at after : ℕ} {e : Expr} (m : Machine) → Evaluates p (names_of r.vars) code.ops at e after → Agrees code.ops width at m.slots r.vars loops → m.around ≡ around_of r → Yields p code m at after (value_of p r e)
   unfolding step_value
@@ -175,4 +186,4 @@ module _ (p : Protocol) (code : Code) (width : ℕ) (loops : List Loop) where
       let n : Machine = record m { at = middle; stack = value_of p r a ∷ m.stack; ops = f.ops } in
       let k = expr_yields r n y (after_expr p (names_of r.vars) code.ops width loops m.slots r.vars x g) i in
       let w : Machine = record n { at = after; stack = value_of p r b ∷ n.stack; ops = k.ops } in
-      subst (Yields p code m at (after + 1)) (layer_value r e (Expr-F.Two o a b) d) (record { ops = k.ops + 1; comes = λ s z. f.comes s (k.comes s (one p code (op.Two o) w _ h refl s z)) })
+      subst (Yields p code m at (after + 1)) (layer_value r e (Expr-F.Two o a b) d) (record { ops = k.ops + 1; straight = one_more k.ops at m.ops after (both_straight f.ops k.ops m.ops at middle after f.straight k.straight); comes = λ s z. f.comes s (k.comes s (one p code (op.Two o) w _ h refl s z)) })

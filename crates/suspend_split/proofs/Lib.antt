@@ -2,10 +2,12 @@ pub mod Accepted
 pub mod Agree
 pub mod Args
 pub mod Chains
+pub mod Counted
 pub mod Doors
 pub mod Entering
 pub mod Exprs
 pub mod Fine
+pub mod Firsts
 pub mod Handlers
 pub mod Numbered
 pub mod OneCode

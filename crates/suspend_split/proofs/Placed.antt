@@ -161,7 +161,7 @@ module _ (p : Protocol) (names : List Name) where
         by_least again (Some m) e =
             let less : length (nodes_in (without set m)) < n = omega (arith, nodes_rest set m e, lt) in
             let up : h < h + 1 = omega arith in
-            follows.turns (out-roll-Do (Do-F.Each x set body)) e a next (ih (start + 1) r (h + 1) (each x (without set m) body ∷ rest) (record { slot = h; set = without set m } ∷ loops) (up, nest) w has (follows.jumps_back back (again (without set m) less)))
+            follows.turns (out-roll-Do (Do-F.Each x set body)) e a next (ih (start + 1) r (h + 1) (each x (without set m) body ∷ rest) (record { slot = h; set = without set m } ∷ loops) (up, nest) w has (follows.jumps_back back next (again (without set m) less)))
 
     -- each statement by its level
     plain_leads : (s : Stmt) (l : Layer) (o : OpCode) → what_of s ≡ l → follows.plain_op l ≡ Some o → One s (layer_code l)
@@ -217,11 +217,12 @@ module _ (p : Protocol) (names : List Name) where
         let room : h + loops_in a ≤ width = omega (arith, both, loops_in-append a jump) in
         let room_b : h + loops_in a + loops_in b ≤ width = omega (arith, both, loops_in-append a jump) in
         let up : h ≤ h + loops_in a = omega arith in
+        let past : at + length t + 1 + length a < to + length b = omega arith in
         let back = has_back code.ops at t (op.JumpIfNot to ∷ (a ++ jump)) has in
         let after = has_back code.ops (at + length t + 1) a jump back.1 in
         let place : at + length (t ++ op.JumpIfNot to ∷ (a ++ jump)) ≡ to + length b = omega (arith, length-append t (op.JumpIfNot to ∷ (a ++ jump)), length-append a jump) in
         let end = subst (λ q. Follows p names width code q rest loops) place f in
-        follows.branches d (expr_placed p names code.ops e at (has_front code.ops at t _ has)) back.0 (placed x (at + length t + 1) r h rest loops n room (has_front code.ops (at + length t + 1) a jump back.1) (follows.jumps after.0 end)) (placed y to (r + rests_in a) (h + loops_in a) rest loops (nested_more names h (h + loops_in a) loops up n) room_b after.1 end)) (placed z)
+        follows.branches d (expr_placed p names code.ops e at (has_front code.ops at t _ has)) back.0 (placed x (at + length t + 1) r h rest loops n room (has_front code.ops (at + length t + 1) a jump back.1) (follows.jumps after.0 past end)) (placed y to (r + rests_in a) (h + loops_in a) rest loops (nested_more names h (h + loops_in a) loops up n) room_b after.1 end)) (placed z)
     placed (fine.sends {s = s} {rest = stmts} {to = to} {name = name} {args = args} d c x) =
         first_leads s stmts _ d (λ at r h rest loops n w has f.
         let t = expr_code p names to in

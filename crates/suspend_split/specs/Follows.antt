@@ -109,6 +109,7 @@ pub data Follows (p : Protocol) (names : List Name) (width : ℕ) (code : Code) 
   jumps :
       {at to : ℕ} {stmts : List Stmt} {loops : List Loop} →
       HasOp code.ops at (op.Jump to) →
+      at < to →
       Follows p names width code to stmts loops →
       Follows p names width code at stmts loops
   plain :
@@ -204,7 +205,8 @@ pub data Follows (p : Protocol) (names : List Name) (width : ℕ) (code : Code) 
       Follows p names width code (at + 1) (body ++ each x (without set n) body ∷ rest) (record { slot = slot; set = without set n } ∷ loops) →
       Follows p names width code at (s ∷ rest) (record { slot = slot; set = set } ∷ loops)
   jumps_back :
-      {at to : ℕ} {stmts : List Stmt} {loops : List Loop} →
+      {at to k slot out : ℕ} {stmts : List Stmt} {loops : List Loop} →
       HasOp code.ops at (op.JumpBack to) →
+      HasOp code.ops to (op.EachNext k slot out) →
       Follows p names width code to stmts loops →
       Follows p names width code at stmts loops

@@ -1,5 +1,5 @@
 -- When a machine stands for a handler under way.
-use Rattle.std.specs.Prelude.{ℕ, ◌≡◌, ◌<◌, ◌≤◌, true, List, [], ◌∷◌, length, map, Option, Some, None, slice_get}
+use Rattle.std.specs.Prelude.{ℕ, ◌≡◌, ◌+◌, ◌*◌, ◌<◌, ◌≤◌, true, List, [], ◌∷◌, length, map, Option, Some, None, slice_get}
 use Rattle.tw_base.specs.declared.name.Name.{Name}
 use Rattle.tw_base.specs.declared.value.Value.{Value}
 use Rattle.teapot_tree.specs.declared.protocol.Protocol.{Protocol}
@@ -11,6 +11,7 @@ use Rattle.teapot_meaning.specs.declared.state.Running.{Running}
 use Rattle.teapot_meaning.specs.declared.state.StateVal.{StateVal, out-StateVal}
 use Rattle.teapot_meaning.specs.Goes.{Goes}
 use Rattle.teapot_meaning.specs.Steps.{set_of}
+use Rattle.teapot_sends.specs.Counts.{steps}
 use Rattle.handler_code.specs.declared.code.Code.{Code}
 use Rattle.handler_code.specs.declared.code.OpCode.{OpCode}
 use Rattle.handler_code.specs.declared.code.Rest.{Rest}
@@ -118,3 +119,16 @@ pub record EndsAlike (p : Protocol) (code : Code) (m : Machine) (e : Ended) : Ty
 abbrev pub Simulates : Protocol → Code → Type 0
 Simulates p code =
     (m : Machine) (stmts : List Stmt) (r : Running) (e : Ended) → Stands p code m stmts r → Goes p stmts r e → EndsAlike p code m e
+
+-- how many ops a step of the meaning takes at most: those that lead to the step, and its own
+abbrev pub ops_a_step : Code → ℕ
+ops_a_step code = 2 * length code.ops + 2
+
+-- Where the statements come to an end, the machine takes at most so many ops for each of their steps.
+abbrev pub TakesFewOps : Protocol → Code → Type 0
+TakesFewOps p code =
+    (m : Machine) (stmts : List Stmt) (r : Running) (e : Ended) (s : Stopped) →
+    Stands p code m stmts r →
+    (g : Goes p stmts r e) →
+    Runs p code m s →
+    s.ops ≤ m.ops + ops_a_step code * steps g

@@ -1,5 +1,5 @@
 -- The code of a protocol, and what it does with a message.
-use Rattle.std.specs.Prelude.{ℕ, ◌≡◌, ◌+◌, ◌↔◌, true, List, [], ◌∷◌, ◌++◌, length, map, replicate, Some, slice_get}
+use Rattle.std.specs.Prelude.{ℕ, ◌≡◌, ◌+◌, ◌*◌, ◌≤◌, ◌↔◌, true, List, [], ◌∷◌, ◌++◌, length, map, replicate, Some, slice_get}
 use Rattle.tw_base.specs.declared.message.Message.{Message}
 use Rattle.teapot_tree.specs.declared.protocol.Handler.{Handler}
 use Rattle.teapot_tree.specs.declared.protocol.Protocol.{Protocol}
@@ -8,6 +8,7 @@ use Rattle.teapot_meaning.specs.Does.{Does}
 use Rattle.teapot_meaning.specs.Fits.{Fits, IsMessageOf, names_in}
 use Rattle.teapot_meaning.specs.declared.state.Ended.{Ended}
 use Rattle.teapot_meaning.specs.declared.state.Here.{Here}
+use Rattle.teapot_sends.specs.Counts.{steps}
 use Rattle.handler_code.specs.declared.code.Code.{Code}
 use Rattle.handler_code.specs.declared.code.Door.{Door}
 use Rattle.handler_code.specs.declared.code.OpCode.{OpCode}
@@ -17,7 +18,7 @@ use Rattle.handler_code.specs.Doors.{Cell, Enters, kind_of}
 use Rattle.handler_code.specs.Live.{ReadsFirst}
 use Rattle.handler_code.specs.Machine.{Saved, Stopped, is_live}
 use Rattle.suspend_split.specs.Compiled.{Piece, code_of, in_order, loops_in, rests_in}
-use Rattle.suspend_split.specs.Stands.{EndStands, StateStands}
+use Rattle.suspend_split.specs.Stands.{EndStands, StateStands, ops_a_step}
 
 -- ---- handlers in the order of the text
 
@@ -111,3 +112,14 @@ DoesWhatIsMeant p code =
     CellStands p code cell chain here →
     Does p here m e →
     EntersAlike p code here cell chain m e
+
+-- the message takes at most so many ops for each step of its meaning
+abbrev pub TakesFewOpsAt : Protocol → Code → Type 0
+TakesFewOpsAt p code =
+    (here : Here) (cell : Cell) (chain : List Saved) (m : Message) (e : Ended) (s : Stopped) →
+    Fits p here →
+    IsMessageOf p (length here.words) m →
+    CellStands p code cell chain here →
+    (d : Does p here m e) →
+    Enters p code here.me here.home here.block here.tag here.words cell chain m s →
+    s.ops ≤ ops_a_step code * steps d.goes

@@ -1,4 +1,4 @@
-use Rattle.std.proofs.Common.{◌≡◌, ◌<◌, length, refl, sym, subst, arith}
+use Rattle.std.proofs.Common.{length, refl, sym, subst, arith}
 use Rattle.std.proofs.lemmas.Option.{slice_get_read}
 use Rattle.handler_compiler.specs.Tables.{IsJustified, IsStep}
 use Rattle.handler_compiler.proofs.Exact.{justified_set}

@@ -1,4 +1,4 @@
-use Rattle.std.proofs.Common.{◌-◌, arith}
+use Rattle.std.proofs.Common.{arith}
 use Rattle.handler_compiler.proofs.Exact.{closed_more}
 use Rattle.handler_compiler.proofs.live.sweep.Goals as goal
 

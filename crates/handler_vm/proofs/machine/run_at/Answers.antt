@@ -1,26 +1,28 @@
-use Rattle.std.proofs.Common.{◌≡◌, ◌≤◌, ◌∙◌, ◌++◌, ℕ, [], length, drop, refl, ap, subst, sym, arith}
+use Rattle.std.proofs.Common.{◌≡◌, ◌≤◌, ◌∙◌, ◌++◌, ℕ, [], ◌∷◌, length, drop, refl, ap, subst, sym, arith}
 use Rattle.std.specs.Prelude.{All, slice_get}
 use Rattle.std.proofs.lemmas.List.{length-take-le, take-append-drop}
 use Rattle.std.proofs.lemmas.List.Elements.{All-nil}
+use Rattle.tw_base.specs.declared.value.Value.TheVariants.{Node}
 use Rattle.teapot_tree.specs.declared.protocol.Protocol.{Protocol}
 use Rattle.block_tags.specs.Copies.{block_words, tag_of, with_block, with_tag}
-use Rattle.handler_code.specs.Doors.{filled}
+use Rattle.handler_code.specs.Doors.{args_taken, filled, locals_of, zeros_of}
 use Rattle.handler_code.specs.Machine.{Runs, state_arity}
 use Rattle.handler_vm.specs.declared.running.Running.{Running}
 use Rattle.handler_vm.specs.Chains.{IsChain, IsFull, saved_from}
-use Rattle.handler_vm.specs.Inside.{FewArgs, IsDeep, IsSound, begun, machine_of}
+use Rattle.handler_vm.specs.Inside.{HasFew, IsAtOp, IsSound, begun, machine_of}
 use Rattle.handler_vm.specs.Leaves.{ran_of}
 use Rattle.handler_vm.specs.Sending.{IsUnsent, Sends}
-use Rattle.handler_vm.proofs.Entering.{door_among, few_args}
+use Rattle.handler_vm.proofs.Entering.{door_among, has_few, wide_filled}
 use Rattle.handler_vm.proofs.machine.run_at.Goals as goal
 
 pub enter-r-requires-clause-few : goal.enter-r-requires-clause-few
 enter-r-requires-clause-few c =
-    let among = door_among c.args.code.now c.args.cell.now.state c.args.m.now.kind c.args.door.now c.requires.is_door in
-    c.requires.room.slots among.place c.args.door.now among.is
+    let among = door_among c.args.code.now c.args.cell.now.state c.args.m.now.kind c.args.entry.now.door.now c.requires.is_door in
+    let places = c.requires.room.places in
+    omega (arith, (places.doors among.place c.args.entry.now.door.now among.is).1, places.most c.args.entry.now.door.now.at)
 
-pub go-end-requires-clause-few_args : goal.go-end-requires-clause-few_args
-go-end-requires-clause-few_args c = subst FewArgs (sym c.protocol.ensures.value) (few_args c.args.p.now c.protocol.ensures.accepted)
+pub go-end-requires-clause-few : goal.go-end-requires-clause-few
+go-end-requires-clause-few c = subst HasFew (sym c.protocol.ensures.value) (has_few c.args.p.now c.protocol.ensures.accepted)
 
 pub go-end-requires-clause-sound : goal.go-end-requires-clause-sound
 go-end-requires-clause-sound c =
@@ -28,8 +30,8 @@ go-end-requires-clause-sound c =
     let cell = c.args.cell.now in
     let words = block_words c.args.blocks.now c.args.m.now.block in
     let count = state_arity (slice_get p.states cell.state) in
-    let start = begun p c.args.door.now c.args.me c.args.home (tag_of c.args.blocks.now c.args.m.now.block) words cell c.args.m.now in
-    let few : count ≤ length cell.args = omega (arith, (few_args p c.protocol.ensures.accepted).states cell.state, c.enter-r.ensures.places) in
+    let start = begun p c.args.entry.now.door.now c.args.me c.args.home (tag_of c.args.blocks.now c.args.m.now.block) words cell c.args.m.now in
+    let few : count ≤ length cell.args = omega (arith, (has_few p c.protocol.ensures.accepted).states cell.state, c.enter-r.ensures.places) in
     let sound : IsSound p start c.args.conts.now = record {
       arity = length-take-le count cell.args few;
       came = subst (λ (n : ℕ). IsFull n c.args.m.now.payload) (sym c.enter-r.ensures.words) c.requires.full;
@@ -39,14 +41,18 @@ go-end-requires-clause-sound c =
     } in
     subst (λ (x : Protocol). IsSound x c.enter-r.result c.args.conts.now) (sym c.protocol.ensures.value) (subst (λ (x : Running). IsSound p x c.args.conts.now) (sym c.enter-r.ensures.run) sound)
 
-pub go-end-requires-clause-deep : goal.go-end-requires-clause-deep
-go-end-requires-clause-deep c =
+pub go-end-requires-clause-placed : goal.go-end-requires-clause-placed
+go-end-requires-clause-placed c =
     let p = c.args.p.now in
+    let door = c.args.entry.now.door.now in
     let code = c.args.code.now in
-    let among = door_among code c.args.cell.now.state c.args.m.now.kind c.args.door.now c.requires.is_door in
-    let start = begun p c.args.door.now c.args.me c.args.home (tag_of c.args.blocks.now c.args.m.now.block) (block_words c.args.blocks.now c.args.m.now.block) c.args.cell.now c.args.m.now in
-    let deep : IsDeep p code start = record { room = c.requires.room; deep = c.requires.room.stack.doors among.place c.args.door.now among.is } in
-    subst (λ (x : Protocol). IsDeep x code c.enter-r.result) (sym c.protocol.ensures.value) (subst (λ (x : Running). IsDeep p code x) (sym c.enter-r.ensures.run) deep)
+    let among = door_among code c.args.cell.now.state c.args.m.now.kind c.args.entry.now.door.now c.requires.is_door in
+    let start = begun p c.args.entry.now.door.now c.args.me c.args.home (tag_of c.args.blocks.now c.args.m.now.block) (block_words c.args.blocks.now c.args.m.now.block) c.args.cell.now c.args.m.now in
+    let room = c.requires.room in
+    let at_door = room.places.doors among.place door among.is in
+    let wide : room.width door.at ≤ length start.slots = omega (arith, at_door.1, wide_filled door.slots (Node c.args.m.now.from ∷ (start.args ++ (args_taken door.on c.args.m.now ++ zeros_of (locals_of p door))))) in
+    let placed : IsAtOp p code start = record { room = room; deep = room.stack.doors among.place door among.is; there = at_door.0; wide = wide } in
+    subst (λ (x : Protocol). IsAtOp x code c.enter-r.result) (sym c.protocol.ensures.value) (subst (λ (x : Running). IsAtOp p code x) (sym c.enter-r.ensures.run) placed)
 
 pub returns-clause-leaves : goal.returns-clause-leaves
 returns-clause-leaves c =
@@ -57,7 +63,7 @@ returns-clause-leaves c =
     let conts = c.args.conts.now in
     let was = c.args.cell.now in
     let first = c.enter-r.result in
-    let start = begun p c.args.door.now c.args.me c.args.home (tag_of c.args.blocks.now c.args.m.now.block) (block_words c.args.blocks.now c.args.m.now.block) was c.args.m.now in
+    let start = begun p c.args.entry.now.door.now c.args.me c.args.home (tag_of c.args.blocks.now c.args.m.now.block) (block_words c.args.blocks.now c.args.m.now.block) was c.args.m.now in
     let begins : first ≡ start = c.enter-r.ensures.run in
     let r = c.go-end.new.self in
     let sent = c.go-end.new.around.sent in

@@ -18,7 +18,7 @@ returns-clause-next c = λ sent.
     let u = unwound (length was.words) old c.take-record.new.self c.args.key r chain c.take-record.ensures.taken c.take-record.ensures.changes in
     let all : saved_from p old was.cont ≡ saved_of p r ∷ saved_from p c.take-record.new.self r.parent = ap (saved_from p old) c.requires.newest ∙ ap (map (saved_of p)) u.records in
     ap (resumed c.args.code.now (machine_of p was sent (saved_from p old was.cont))) all
-    ∙ rw (c.free.ensures, c.place_of_rest-self.ensures, c.all-self.ensures, c.clear.ensures, c.first-self.ensures, c.state_arity.ensures) refl
+    ∙ rw (c.free.ensures, c.place_of_rest-self.ensures, c.all-self.ensures, c.clear.ensures, c.first-self.ensures, c.saved_arity.ensures) refl
 
 pub returns-clause-sound : goal.returns-clause-sound
 returns-clause-sound c =
@@ -28,8 +28,8 @@ returns-clause-sound c =
     let chain : IsChain (length was.words) c.args.conts.now (Some c.args.key) = subst (IsChain (length was.words) c.args.conts.now) c.requires.newest c.requires.sound.chain in
     let u = unwound (length was.words) c.args.conts.now c.take-record.new.self c.args.key r chain c.take-record.ensures.taken c.take-record.ensures.changes in
     let count = state_arity (slice_get p.states r.state) in
-    rw (c.free.ensures, c.first-self.ensures, c.state_arity.ensures) (record {
-      arity = length-take-le count r.args (omega (arith, u.whole.args, c.requires.few_args.states r.state));
+    rw (c.free.ensures, c.first-self.ensures, c.saved_arity.ensures) (record {
+      arity = length-take-le count r.args (omega (arith, u.whole.args, c.requires.few.states r.state));
       came = u.whole.came;
       none_made = c.requires.sound.none_made;
       chain = u.chain;

@@ -65,6 +65,9 @@ returns-in-Done-clause-over c =
 pub returns-in-Done-clause-others : goal.returns-in-Done-clause-others
 returns-in-Done-clause-others c = λ store was s chain. rw c.count-in-Done.ensures (keeps_spared chain.named s)
 
+pub work-requires-clause-there : goal.work-requires-clause-there
+work-requires-clause-there c = (c.args.code.now, c.requires.there)
+
 pub returns-in_default : goal.returns-in_default
 returns-in_default c =
     let p = c.args.p.now in

@@ -1,13 +1,18 @@
-use Rattle.std.proofs.Common.{◌≡◌, ◌∙◌, ◌∷◌, ◌+◌, Some, length, take, refl, ap, sym}
-use Rattle.std.specs.Prelude.{map, slice_get, reverse}
+use Rattle.std.proofs.Common.{◌≡◌, ◌∙◌, ◌∷◌, ◌+◌, Some, length, take, get_or, refl, ap, sym, arith}
+use Rattle.std.specs.Prelude.{List, map, slice_get, reverse}
 use Rattle.std.proofs.lemmas.List.{length-reverse, length-take-le}
+use Rattle.std.proofs.lemmas.Option.{slice_get-get_or}
 use Rattle.cont_store.specs.declared.record.Record.{Record}
+use Rattle.handler_code.specs.declared.code.Rest.{Rest}
 use Rattle.handler_code.specs.Doors.{filled}
 use Rattle.handler_code.specs.Machine.{Saved, saved_values, state_arity}
 use Rattle.handler_vm.specs.Chains.{IsFull, IsWhole, records_of, saved_from, saved_of, widened}
 use Rattle.handler_vm.proofs.Chaining.{keeps_saved, widened_all}
 use Rattle.handler_vm.proofs.Winding.{wound}
 use Rattle.handler_vm.proofs.running.Running.suspend.Goals as goal
+
+abbrev no_rest : Rest
+no_rest = record { at = 0; door = 0; live = 0 }
 
 pub returns-clause-stop : goal.returns-clause-stop
 returns-clause-stop c = λ sent.
@@ -39,7 +44,8 @@ returns-clause-stop c = λ sent.
     let whole : IsWhole words r = record { values = c.saved.ensures.all; args = c.places.ensures.all; came = came } in
     let depth : r.depth ≡ length rs + 1 = ap (λ n. n + 1) c.depth-depth.ensures in
     let w = wound words old c.save.new.self was.cont c.save.result r c.requires.sound.chain c.save.ensures.was_free c.save.ensures.changes (ap (λ x. x.cont) same) depth c.requires.low whole in
-    let rest_is : c.copied-saved.result ≡ slice_get c.args.code.now.rests c.args.rest = c.copied-saved.ensures ∙ c.get.ensures.value in
+    let rest_is : Some (get_or c.items.result.now c.args.rest no_rest) ≡ slice_get c.args.code.now.rests c.args.rest =
+    sym (ap (λ (rests : List Rest). slice_get rests c.args.rest) (sym c.items.ensures) ∙ slice_get-get_or c.items.result.now c.args.rest no_rest (omega (arith, c.requires.saved, ap length c.items.ensures))) in
     let values : r.values ≡ filled 21 saved.values = c.saved.ensures.value ∙ ap (λ o. filled 21 (saved_values o left.slots)) rest_is ∙ ap (λ x. filled 21 (saved_values (slice_get c.args.code.now.rests c.args.rest) x.slots)) same in
     let used : take (length was.args) c.places.result ≡ was.args = rw same at c.places.ensures.used in
     let args : take (state_arity (slice_get p.states left.state)) c.places.result ≡ was.args =

@@ -2,7 +2,7 @@ use Rattle.std.proofs.Common.{◌≡◌, ◌≤◌, ◌<◌, ◌∙◌, length, 
 use Rattle.tw_base.specs.declared.value.Value.TheVariants.{Int}
 use Rattle.handler_vm.proofs.Saving.{done, done_all, done_kept, done_left, length-done}
 use Rattle.handler_vm.proofs.values.Slots.saved.Goals as goal
-use Rattle.handler_vm.proofs.values.Slots.saved.Goals.{then-keeps, else-keeps}
+use Rattle.handler_vm.proofs.values.Slots.saved.Goals.{then-is_live, else-is_live}
 
 pub loop-k-preserved : goal.loop-k-preserved
 loop-k-preserved c =
@@ -11,11 +11,11 @@ loop-k-preserved c =
     let l = c.loop-k in
     let low : l.k < length own = omega (arith, c.loop-k-test.true, c.self.invariant.0, c.self.invariant.1) in
     let few : l.k < 21 = omega (arith, low, c.self.invariant.0) in
-    elim c.if-keeps.branch [
-      | then-keeps w ↦
-          w.values-is ∙ ap (set l.values l.k) w.index-own-k.is ∙ done_kept rest own l.k w.index-own-k.result l.values low few (sym c.keeps.ensures ∙ w.if-keeps.true) l.invariant
-      | else-keeps w ↦
-          w.values-is ∙ done_left rest own l.k (Int 0) l.values low few (sym c.keeps.ensures ∙ w.if-keeps.false) l.invariant
+    elim c.if-is_live.branch [
+      | then-is_live w ↦
+          w.values-is ∙ ap (set l.values l.k) w.index-own-k.is ∙ done_kept rest own l.k w.index-own-k.result l.values low few (sym c.is_live.ensures ∙ w.if-is_live.true) l.invariant
+      | else-is_live w ↦
+          w.values-is ∙ done_left rest own l.k (Int 0) l.values low few (sym c.is_live.ensures ∙ w.if-is_live.false) l.invariant
     ]
 
 pub returns-clause-value : goal.returns-clause-value

@@ -1,7 +1,7 @@
-use Rattle.std.proofs.Common.{◌≡◌, ◌∙◌, ap}
+use Rattle.std.proofs.Common.{◌∙◌, ap}
 use Rattle.teapot_tree.specs.declared.protocol.Protocol.{Protocol}
 use Rattle.handler_compiler.proofs.Complete.{complete_if, from_none}
-use Rattle.handler_compiler.proofs.compiler.split.Goals as goal
+use Rattle.handler_compiler.proofs.compiler.compiled.Goals as goal
 
 pub returns : goal.returns
 returns c =

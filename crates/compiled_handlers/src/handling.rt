@@ -1,0 +1,64 @@
+ghost use Rattle.std.specs.Prelude.{◌≡◌, ◌^◌, ◌<◌, ◌≤◌, length};
+ghost use Rattle.teapot_meaning.specs.Does.{Does};
+ghost use Rattle.teapot_meaning.specs.Fits.{Fits, IsMessageOf};
+ghost use Rattle.teapot_meaning.specs.declared.state.Ended.{Ended};
+ghost use Rattle.teapot_meaning.specs.declared.state.Here.{Here};
+ghost use Rattle.handler_code.specs.Machine.{Stopped};
+ghost use Rattle.handler_vm.specs.Chains.{IsFull, KeepsOthers};
+ghost use Rattle.handler_vm.specs.Leaves.{StopsAt};
+ghost use Rattle.handler_vm.specs.Sending.{IsReady};
+ghost use Rattle.suspend_split.specs.Whole.{IsCode};
+ghost use Rattle.compiled_handlers.specs.Standing.{BlockStands, DoesAsMeant, IsBlockOf};
+
+use crate::laws::code_is_lawful;
+use block_tags::Blocks;
+use cont_store::Conts;
+use handler_code::Code;
+use handler_vm::{Around, Cell, Ran, run};
+use teapot_tree::Checked;
+use tw_base::{Message, NodeId};
+
+/// Handles a message for a block by the protocol's code. It takes no memory.
+///
+/// What is done is what the message means at the block that the cell, its records, and the block's tag and words stand for,
+/// and what they are afterwards stands for the block that the meaning leaves. All other blocks and records stay. The ops and
+/// records are counted as the machine of ops counts them.
+pub fn handle(
+    code: &Code,
+    p: &Checked,
+    cell: &mut Cell,
+    blocks: &mut Blocks,
+    conts: &mut Conts,
+    me: NodeId,
+    home: NodeId,
+    m: &Message,
+    around: &mut Around,
+) -> Ran
+    requires code { IsCode p.now code.now }
+    requires short { length code.now.ops < 2 ^ 22 }
+    requires stands { (here : Here)
+        × IsBlockOf me home m.now.block here
+        × Fits p.now here
+        × BlockStands p.now code.now (record { cell = cell.old; blocks = blocks.old; conts = conts.old }) here }
+    requires message { IsMessageOf p.now blocks.old.shape.words m.now }
+    requires full { IsFull blocks.old.shape.words m.now.payload }
+    requires block { m.now.block < blocks.old.shape.blocks }
+    requires spare { 1 ≤ conts.old.spare }
+    requires ready { IsReady around.old }
+    ensures meant { (here : Here) (e : Ended) →
+        IsBlockOf me home m.now.block here →
+        Fits p.now here →
+        BlockStands p.now code.now (record { cell = cell.old; blocks = blocks.old; conts = conts.old }) here →
+        Does p.now here m.now e →
+        DoesAsMeant p.now code.now me home m.now.block (record { cell = cell.old; blocks = blocks.old; conts = conts.old }) (record { cell = cell.new; blocks = blocks.new; conts = conts.new }) around.new.sent result e }
+    ensures counts { (e : Stopped) →
+        StopsAt p.now code.now me home cell.old blocks.old conts.old m.now e →
+        (result.ops ≡ e.ops) × (result.records ≡ e.records) }
+    ensures others { KeepsOthers conts.old conts.new cell.old.cont cell.new.cont }
+    ensures room { around.new.room ≡ around.old.room }
+{
+    code_is_lawful();
+    let _shape = blocks.shape();
+    let _protocol = p.protocol();
+    run(code, p, cell, blocks, conts, me, home, m, around)
+}

@@ -1,0 +1,14 @@
+use Rattle.std.proofs.Common.{ap}
+use Rattle.cont_store.specs.Store.{record_at}
+use Rattle.compiled_handlers_tests.proofs.Chaining.{same_chain}
+use Rattle.compiled_handlers_tests.proofs.Standing.{stands_again}
+use Rattle.compiled_handlers_tests.proofs.both.ready.Goals as goal
+
+pub returns-clause-alike : goal.returns-clause-alike
+returns-clause-alike c = λ p code a.
+    let same = same_chain _ _ _ _ (λ k. ap (λ s. record_at s k) c.reserve.ensures.records) a.stands.chain in
+    record {
+      fits = a.fits;
+      stands = stands_again _ _ _ _ _ _ a.stands same;
+      within = a.within;
+    }
