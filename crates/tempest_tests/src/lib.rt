@@ -4,7 +4,11 @@
 #[cfg(test)]
 mod asking;
 #[cfg(test)]
+mod cases;
+#[cfg(test)]
 mod counts;
+#[cfg(test)]
+mod journals;
 #[cfg(test)]
 mod runs;
 #[cfg(test)]
