@@ -1,7 +1,7 @@
 use code_rules::{CodeFault, verify};
 use code_walks::live;
 use handler_code::OpCode;
-use handler_compiler::split;
+use suspend_split::split;
 use std::alloc::Global;
 use std::process::Abort;
 use std::test::Fail;

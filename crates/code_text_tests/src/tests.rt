@@ -1,6 +1,6 @@
 use crate::tables::{ALL, ALL_CODE, DEAF_CODE, WALK_CODE};
 use code_text::code_text;
-use handler_compiler::split;
+use suspend_split::split;
 use std::alloc::Global;
 use std::test::Fail;
 use teapot_check::check;

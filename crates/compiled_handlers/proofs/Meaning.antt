@@ -19,8 +19,8 @@ use Rattle.cont_store.specs.Store.{Store}
 use Rattle.handler_code.specs.declared.code.Code.{Code}
 use Rattle.handler_code.specs.Doors.{Enters}
 use Rattle.handler_code.specs.Machine.{Stopped, state_arity}
-use Rattle.suspend_split.specs.Stands.{ChainStands, EndStands}
-use Rattle.suspend_split.specs.Whole.{CellStands, EntersAlike}
+use Rattle.compiled_meaning.specs.Stands.{ChainStands, EndStands}
+use Rattle.compiled_meaning.specs.Whole.{CellStands, EntersAlike}
 use Rattle.handler_vm.specs.declared.cell.Cell.{Cell}
 use Rattle.handler_vm.specs.declared.cell.Ran.{Ran}
 use Rattle.handler_vm.specs.Chains.{IsChain, saved_from, widened}

@@ -7,8 +7,8 @@ use Rattle.teapot_tree.specs.declared.protocol.State.{State}
 use Rattle.handler_code.specs.declared.code.Code.{Code}
 use Rattle.handler_code.specs.Doors.{kind_of}
 use Rattle.handler_vm.specs.Order.{IsInOrder, Sign, sign_of, signs_from}
-use Rattle.suspend_split.specs.Compiled.{rests_in}
-use Rattle.suspend_split.specs.Whole.{Entry, IsCode, doors_from, entries_from, entries_of, entry_code}
+use Rattle.compiled_meaning.specs.Compiled.{rests_in}
+use Rattle.compiled_meaning.specs.Whole.{Entry, IsCode, doors_from, entries_from, entries_of, entry_code}
 
 module _ (p : Protocol) where
   abbrev sign : Entry → Sign

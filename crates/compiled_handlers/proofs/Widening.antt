@@ -12,8 +12,8 @@ use Rattle.handler_code.specs.declared.code.Code.{Code}
 use Rattle.handler_code.specs.declared.code.OpCode.{OpCode}
 use Rattle.handler_code.specs.Doors.{filled}
 use Rattle.handler_code.specs.Machine.{Saved, value_at}
-use Rattle.suspend_split.specs.Follows.{Loop}
-use Rattle.suspend_split.specs.Stands.{Agrees, ChainStands, HoldsSets, StateStands, none, some}
+use Rattle.compiled_meaning.specs.Follows.{Loop}
+use Rattle.compiled_meaning.specs.Stands.{Agrees, ChainStands, HoldsSets, StateStands, none, some}
 use Rattle.handler_vm.specs.Chains.{widened}
 
 value_zeros : (more k : ℕ) → value_at (replicate more (v.Int 0)) k ≡ v.Int 0

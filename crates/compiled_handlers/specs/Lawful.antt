@@ -9,7 +9,7 @@ use Rattle.teapot_meaning.specs.declared.state.Ended.{Ended}
 use Rattle.teapot_meaning.specs.declared.state.Here.{Here}
 use Rattle.teapot_sends.specs.Counts.{steps}
 use Rattle.handler_code.specs.declared.code.Code.{Code}
-use Rattle.suspend_split.specs.Whole.{DoesWhatIsMeant, TakesFewOpsAt}
+use Rattle.compiled_meaning.specs.Whole.{DoesWhatIsMeant, TakesFewOpsAt}
 
 -- A message has one meaning at a block that fits, which leaves a block that fits, with few sends and after few steps; and
 -- the code does what is meant, in few ops a step.

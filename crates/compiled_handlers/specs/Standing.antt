@@ -12,7 +12,7 @@ use Rattle.handler_vm.specs.declared.cell.Ran.{Ran}
 use Rattle.handler_vm.specs.Chains.{IsChain, saved_from}
 use Rattle.handler_vm.specs.Leaves.{kept_of}
 use Rattle.handler_vm.specs.Sending.{IsUnsent, out_of}
-use Rattle.suspend_split.specs.Whole.{CellStands}
+use Rattle.compiled_meaning.specs.Whole.{CellStands}
 
 -- what a node keeps of a block: the cell, the node's tags and words, and its records
 pub record Keeping : Type 0 where

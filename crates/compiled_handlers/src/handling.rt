@@ -7,7 +7,7 @@ ghost use Rattle.handler_code.specs.Machine.{Stopped};
 ghost use Rattle.handler_vm.specs.Chains.{IsFull, KeepsOthers};
 ghost use Rattle.handler_vm.specs.Leaves.{StopsAt};
 ghost use Rattle.handler_vm.specs.Sending.{IsReady};
-ghost use Rattle.suspend_split.specs.Whole.{IsCode};
+ghost use Rattle.compiled_meaning.specs.Whole.{IsCode};
 ghost use Rattle.compiled_handlers.specs.Standing.{BlockStands, DoesAsMeant, IsBlockOf};
 
 use crate::laws::code_is_lawful;

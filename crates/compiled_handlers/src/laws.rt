@@ -1,10 +1,10 @@
 ghost use Rattle.teapot_tree.specs.Rules.{IsAccepted};
 ghost use Rattle.teapot_tree.specs.declared.protocol.Protocol.{Protocol};
 ghost use Rattle.handler_code.specs.declared.code.Code.{Code};
-ghost use Rattle.suspend_split.specs.Whole.{IsCode};
+ghost use Rattle.compiled_meaning.specs.Whole.{IsCode};
 ghost use Rattle.compiled_handlers.specs.Lawful.{IsLawful};
 
-use suspend_split::{
+use compiled_meaning::{
     code_does_what_is_meant, code_has_an_op_for_each_statement, code_takes_few_ops,
 };
 use teapot_meaning::fitting_blocks_stay_fit;

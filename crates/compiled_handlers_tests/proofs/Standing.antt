@@ -21,8 +21,8 @@ use Rattle.handler_code.specs.Machine.{state_arity}
 use Rattle.handler_vm.specs.declared.cell.Cell.{Cell}
 use Rattle.handler_vm.specs.Chains.{IsChain, ends, saved_from}
 use Rattle.handler_vm.specs.Leaves.{kept_of}
-use Rattle.suspend_split.specs.Stands.{ChainStands, StateStands, none}
-use Rattle.suspend_split.specs.Whole.{CellStands}
+use Rattle.compiled_meaning.specs.Stands.{ChainStands, StateStands, none}
+use Rattle.compiled_meaning.specs.Whole.{CellStands}
 use Rattle.compiled_handlers.specs.Standing.{BlockStands, Keeping}
 use Rattle.compiled_handlers.proofs.Writing.{words_full}
 use Rattle.compiled_handlers_tests.specs.Alike.{Alike, IsPlain}

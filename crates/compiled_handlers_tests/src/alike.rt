@@ -1,7 +1,7 @@
 //! Long rows of messages, each of which both sides handle alike.
 
 ghost use Rattle.std.specs.Prelude.{◌^◌, ◌<◌, OnOk, length};
-ghost use Rattle.suspend_split.specs.Whole.{IsCode};
+ghost use Rattle.compiled_meaning.specs.Whole.{IsCode};
 ghost use Rattle.compiled_handlers_tests.specs.Alike.{Alike};
 
 use crate::both::{Both, first, go_on, handled, is_plain};

@@ -9,7 +9,7 @@ ghost use Rattle.cont_store.specs.Store.{Store};
 ghost use Rattle.handler_code.specs.declared.code.Code.{Code};
 ghost use Rattle.handler_vm.specs.Chains.{IsChain, IsFull};
 ghost use Rattle.handler_vm.specs.Sending.{IsReady};
-ghost use Rattle.suspend_split.specs.Whole.{IsCode};
+ghost use Rattle.compiled_meaning.specs.Whole.{IsCode};
 ghost use Rattle.compiled_handlers.specs.Standing.{BlockStands};
 ghost use Rattle.compiled_handlers_tests.specs.Alike.{Alike, EndsAlike, IsPlain};
 

@@ -1,8 +1,8 @@
 ghost use Rattle.std.specs.Prelude.{◌^◌, ◌<◌, IfOk, length};
-ghost use Rattle.suspend_split.specs.Whole.{IsCode};
+ghost use Rattle.compiled_meaning.specs.Whole.{IsCode};
 
 use handler_code::Code;
-use handler_compiler::split;
+use suspend_split::split;
 use std::alloc::Global;
 use std::test::Fail;
 use teapot_check::check;

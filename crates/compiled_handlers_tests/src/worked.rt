@@ -2,7 +2,7 @@
 //! results worked out by hand.
 
 ghost use Rattle.std.specs.Prelude.{◌^◌, ◌<◌, OnOk, length};
-ghost use Rattle.suspend_split.specs.Whole.{IsCode};
+ghost use Rattle.compiled_meaning.specs.Whole.{IsCode};
 ghost use Rattle.compiled_handlers_tests.specs.Alike.{Alike};
 
 use crate::both::{Both, first, go_on, handled, records};

@@ -27,9 +27,9 @@ use Rattle.handler_code.specs.declared.code.OpCode.TheVariants as op
 use Rattle.handler_code.specs.Live.{HasOp}
 use Rattle.handler_code.specs.Machine.{message_arity, state_arity}
 use Rattle.code_walks.specs.Stacks.{depth_after, is_served, is_value, taken, target}
-use Rattle.suspend_split.specs.Follows.{Evaluates, EvaluatesAll, atom_op, get_op, put_op, slot_of}
-use Rattle.suspend_split.specs.Follows as follows
-use Rattle.suspend_split.proofs.Accepted.{message_counted, state_counted}
+use Rattle.compiled_meaning.specs.Follows.{Evaluates, EvaluatesAll, atom_op, get_op, put_op, slot_of}
+use Rattle.compiled_meaning.specs.Follows as follows
+use Rattle.compiled_meaning.proofs.Accepted.{message_counted, state_counted}
 use Rattle.compiled_rules.proofs.Spans.{Over, all_rise, le_true, over_joined, over_none, over_one, rises}
 use Rattle.compiled_rules.proofs.Walk.{Closed, Shallow, last_op}
 

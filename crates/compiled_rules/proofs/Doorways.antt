@@ -26,10 +26,10 @@ use Rattle.handler_code.specs.declared.code.Kind2.TheVariants as on
 use Rattle.handler_code.specs.declared.code.OpCode.{OpCode}
 use Rattle.handler_code.specs.Doors.{is_for_all_else, kind_of, same_kind}
 use Rattle.code_rules.specs.Serving.{are_apart, has_default, same_door, serves_all}
-use Rattle.suspend_split.specs.Compiled.{rests_in}
-use Rattle.suspend_split.specs.Whole.{Entry, IsCode, door_of, doors_from, entries_from, entries_of, entry_code}
-use Rattle.suspend_split.proofs.Accepted.{contains_first, contains_later, some_of}
-use Rattle.suspend_split.proofs.Doors.{door_found, else_alike, entry, found_entry, in_entries, of_state}
+use Rattle.compiled_meaning.specs.Compiled.{rests_in}
+use Rattle.compiled_meaning.specs.Whole.{Entry, IsCode, door_of, doors_from, entries_from, entries_of, entry_code}
+use Rattle.compiled_meaning.proofs.Accepted.{contains_first, contains_later, some_of}
+use Rattle.compiled_meaning.proofs.Doors.{door_found, else_alike, entry, found_entry, in_entries, of_state}
 
 -- ---- kinds and triggers
 

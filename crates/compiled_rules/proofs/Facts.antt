@@ -20,12 +20,12 @@ use Rattle.handler_code.specs.declared.code.OpCode.{OpCode}
 use Rattle.handler_code.specs.declared.code.OpCode.TheVariants as op
 use Rattle.handler_code.specs.Live.{HasOp}
 use Rattle.code_walks.specs.Parts.{end_of, op_at}
-use Rattle.suspend_split.specs.Compiled.{code_of, loops_in}
-use Rattle.suspend_split.specs.Whole.{IsCode}
-use Rattle.suspend_split.proofs.Accepted.{all_fine}
-use Rattle.suspend_split.proofs.Handlers.{rests}
-use Rattle.suspend_split.proofs.Placed.{loops_in-append}
-use Rattle.suspend_split.proofs.Places.{HasAt, RestsFollow}
+use Rattle.compiled_meaning.specs.Compiled.{code_of, loops_in}
+use Rattle.compiled_meaning.specs.Whole.{IsCode}
+use Rattle.compiled_meaning.proofs.Accepted.{all_fine}
+use Rattle.compiled_meaning.proofs.Handlers.{rests}
+use Rattle.compiled_meaning.proofs.Placed.{loops_in-append}
+use Rattle.compiled_meaning.proofs.Places.{HasAt, RestsFollow}
 use Rattle.compiled_rules.proofs.Handled.{Handled, body_code, names_of}
 use Rattle.compiled_rules.proofs.Neat.{Neat, neat}
 use Rattle.compiled_rules.proofs.Spans.{before_or}

@@ -14,11 +14,11 @@ use Rattle.handler_code.specs.declared.code.OpCode.{OpCode}
 use Rattle.handler_code.specs.declared.code.OpCode.TheVariants as op
 use Rattle.handler_code.specs.Live.{HasOp}
 use Rattle.code_walks.specs.Parts.{end_of, place_or}
-use Rattle.suspend_split.specs.Compiled.{code_of, in_order, loops_in, rests_in}
-use Rattle.suspend_split.specs.Whole.{Entry, IsCode, door_of, doors_from, entries_code, entries_from, entries_of, entry_code}
-use Rattle.suspend_split.proofs.Accepted.{contains_first, contains_later}
-use Rattle.suspend_split.proofs.Handlers.{has_all}
-use Rattle.suspend_split.proofs.Places.{HasAt, has_back, has_front}
+use Rattle.compiled_meaning.specs.Compiled.{code_of, in_order, loops_in, rests_in}
+use Rattle.compiled_meaning.specs.Whole.{Entry, IsCode, door_of, doors_from, entries_code, entries_from, entries_of, entry_code}
+use Rattle.compiled_meaning.proofs.Accepted.{contains_first, contains_later}
+use Rattle.compiled_meaning.proofs.Handlers.{has_all}
+use Rattle.compiled_meaning.proofs.Places.{HasAt, has_back, has_front}
 
 -- ---- doors and handlers, one by one
 

@@ -17,7 +17,7 @@ use Rattle.code_walks.specs.declared.jumps.Loop.{Loop}
 use Rattle.code_walks.specs.declared.parts.Part.{Part}
 use Rattle.code_walks.specs.Jumps.{is_back_to, is_each_to, is_nested, is_not_entered, leads_forward, leads_well, leads_wrongly, loop_at, loops_from, loops_of}
 use Rattle.code_walks.specs.Parts.{AtOp, end_of, op_at, part_of}
-use Rattle.suspend_split.specs.Whole.{IsCode}
+use Rattle.compiled_meaning.specs.Whole.{IsCode}
 use Rattle.compiled_rules.proofs.Facts.{each_op, is_neat, op_is}
 use Rattle.compiled_rules.proofs.Handled.{Handled, handled, names_of}
 use Rattle.compiled_rules.proofs.Neat.{Fits, Neat}

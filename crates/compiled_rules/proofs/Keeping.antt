@@ -7,7 +7,7 @@ use Rattle.handler_code.specs.declared.code.Code.{Code}
 use Rattle.code_rules.specs.declared.fault.Rule.{Rule}
 use Rattle.code_rules.specs.declared.fault.Rule.TheVariants.{Ranges, Jumps, Stack, Types, Ends, Rests, Live, Doors, Sets}
 use Rattle.code_rules.specs.Rules.{Breaks, KeepsRules}
-use Rattle.suspend_split.specs.Whole.{IsCode}
+use Rattle.compiled_meaning.specs.Whole.{IsCode}
 use Rattle.compiled_rules.proofs.Doorways.{serves}
 use Rattle.compiled_rules.proofs.Jumping.{keeps_jumps}
 use Rattle.compiled_rules.proofs.Kinding.{keeps_types}

@@ -32,9 +32,9 @@ use Rattle.handler_code.specs.Live.{HasOp}
 use Rattle.code_walks.specs.Kinds.{breaks_types, filled, gives, has_loop_slots, is_typed, needs, pushed_on, slot_types, top_type, types_after, types_before, variable_types}
 use Rattle.code_walks.specs.Parts.{AtOp, end_of, op_at, part_of}
 use Rattle.code_walks.specs.Parts.{handler_of}
-use Rattle.suspend_split.specs.Follows.{Evaluates, put_op, slot_of}
-use Rattle.suspend_split.specs.Whole.{IsCode}
-use Rattle.suspend_split.proofs.Accepted.{some_of}
+use Rattle.compiled_meaning.specs.Follows.{Evaluates, put_op, slot_of}
+use Rattle.compiled_meaning.specs.Whole.{IsCode}
+use Rattle.compiled_meaning.proofs.Accepted.{some_of}
 use Rattle.compiled_rules.proofs.Facts.{each_op, has_handler, has_state, holds, op_is}
 use Rattle.compiled_rules.proofs.Handled.{Handled, handled}
 use Rattle.compiled_rules.proofs.Slotting.{SlotsFit, slots_fit}

@@ -10,9 +10,9 @@ use Rattle.teapot_tree.specs.Bodies.{Body, done, plain, branch, branches, loop, 
 use Rattle.teapot_tree.specs.Parts.{eaches, loops, simple_exprs}
 use Rattle.teapot_meaning.specs.Layers.{Layer}
 use Rattle.handler_code.specs.declared.code.OpCode.TheVariants as op
-use Rattle.suspend_split.specs.Compiled.{Piece, all_code, code_of, expr_code, loops_in, op_list, rests_in, stmt_code}
-use Rattle.suspend_split.specs.Follows.{slot_of}
-use Rattle.suspend_split.proofs.Placed.{by_layer, layer_code, loops_in-append}
+use Rattle.compiled_meaning.specs.Compiled.{Piece, all_code, code_of, expr_code, loops_in, op_list, rests_in, stmt_code}
+use Rattle.compiled_meaning.specs.Follows.{slot_of}
+use Rattle.compiled_meaning.proofs.Placed.{by_layer, layer_code, loops_in-append}
 use Rattle.compiled_rules.proofs.Walk.{all_flat, expr_flat, last_op, simple-is, simple_flat}
 
 module _ (p : Protocol) (names : List Name) where

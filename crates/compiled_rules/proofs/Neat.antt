@@ -22,9 +22,9 @@ use Rattle.teapot_meaning.proofs.Sound.{Keeps, scope_of}
 use Rattle.handler_code.specs.declared.code.OpCode.{OpCode}
 use Rattle.handler_code.specs.declared.code.OpCode.TheVariants as op
 use Rattle.handler_code.specs.Live.{HasOp}
-use Rattle.suspend_split.specs.Follows.{Evaluates, EvaluatesAll, atom_op, get_op, put_op, slot_of}
-use Rattle.suspend_split.specs.Follows as follows
-use Rattle.suspend_split.proofs.Accepted.{some_of}
+use Rattle.compiled_meaning.specs.Follows.{Evaluates, EvaluatesAll, atom_op, get_op, put_op, slot_of}
+use Rattle.compiled_meaning.specs.Follows as follows
+use Rattle.compiled_meaning.proofs.Accepted.{some_of}
 use Rattle.compiled_rules.proofs.Spans.{Over, all_rise, before_or, over_joined, over_none, over_one, rises}
 use Rattle.compiled_rules.proofs.Walk.{Closed, last_op}
 

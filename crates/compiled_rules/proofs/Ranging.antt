@@ -12,7 +12,7 @@ use Rattle.handler_code.specs.declared.code.OpCode.TheVariants as op
 use Rattle.handler_code.specs.Live.{HasOp}
 use Rattle.code_walks.specs.Jumps.{ends_wrongly, is_done, is_in_range, is_out_of_range}
 use Rattle.code_walks.specs.Parts.{AtOp, op_at}
-use Rattle.suspend_split.specs.Whole.{IsCode}
+use Rattle.compiled_meaning.specs.Whole.{IsCode}
 use Rattle.compiled_rules.proofs.Facts.{each_op, fin_there, is_neat, rests_stand}
 use Rattle.compiled_rules.proofs.Handled.{handled, names_of}
 use Rattle.compiled_rules.proofs.Neat.{Fits}

@@ -19,11 +19,11 @@ use Rattle.handler_code.specs.Machine.{is_live}
 use Rattle.code_walks.specs.Parts.{AtRest, end_of, op_at, place_or}
 use Rattle.code_rules.specs.Serving.{LosesSlot, is_behind, is_placed, suspends_to}
 use Rattle.code_rules.specs.Structure.{has_slots_of, is_live_below, is_rest_of}
-use Rattle.suspend_split.specs.Compiled.{in_order, loops_in, rests_by, rests_in}
-use Rattle.suspend_split.specs.Whole.{Entry, IsCode, doors_from, entries_code, entries_of, entry_code, place_by, rest_doors, rest_places}
-use Rattle.suspend_split.proofs.Accepted.{all_fine}
-use Rattle.suspend_split.proofs.Handlers.{all_numbered}
-use Rattle.suspend_split.proofs.Rests.{NumberedFrom}
+use Rattle.compiled_meaning.specs.Compiled.{in_order, loops_in, rests_by, rests_in}
+use Rattle.compiled_meaning.specs.Whole.{Entry, IsCode, doors_from, entries_code, entries_of, entry_code, place_by, rest_doors, rest_places}
+use Rattle.compiled_meaning.proofs.Accepted.{all_fine}
+use Rattle.compiled_meaning.proofs.Handlers.{all_numbered}
+use Rattle.compiled_meaning.proofs.Rests.{NumberedFrom}
 use Rattle.compiled_rules.proofs.Counting.{count_one}
 use Rattle.compiled_rules.proofs.Facts.{fin_there, is_neat, op_is, rests_stand}
 use Rattle.compiled_rules.proofs.Handled.{Handled, handled, names_of, next_place}

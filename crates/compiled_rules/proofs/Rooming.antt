@@ -18,7 +18,7 @@ use Rattle.teapot_meaning.proofs.Variables.{len_map}
 use Rattle.handler_code.specs.declared.code.Code.{Code}
 use Rattle.handler_code.specs.declared.code.Door.{Door}
 use Rattle.code_rules.proofs.Depthly.{depths}
-use Rattle.suspend_split.specs.Whole.{IsCode}
+use Rattle.compiled_meaning.specs.Whole.{IsCode}
 use Rattle.compiled_rules.specs.Room.{NeedsLittle}
 use Rattle.compiled_rules.proofs.Facts.{has_handler, has_state}
 use Rattle.compiled_rules.proofs.Handled.{handled}

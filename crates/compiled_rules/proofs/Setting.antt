@@ -13,7 +13,7 @@ use Rattle.handler_code.specs.Live.{HasOp}
 use Rattle.code_walks.specs.declared.parts.Part.{Part}
 use Rattle.code_walks.specs.Parts.{AtOp, end_of, op_at, ops_of, part_of}
 use Rattle.code_rules.specs.Sets.{has_own_set, is_each_into, is_each_over, is_put, is_put_before, is_set_of_one, shares_set}
-use Rattle.suspend_split.specs.Whole.{IsCode}
+use Rattle.compiled_meaning.specs.Whole.{IsCode}
 use Rattle.compiled_rules.proofs.Counting.{any_none, count_one, drop_get, get_drop, get_take, take_get}
 use Rattle.compiled_rules.proofs.Facts.{each_op, is_neat, op_is}
 use Rattle.compiled_rules.proofs.Handled.{Handled, handled, names_of}

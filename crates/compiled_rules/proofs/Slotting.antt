@@ -28,7 +28,7 @@ use Rattle.teapot_meaning.proofs.Visible.{apart_parts, name_in, visible_apart, v
 use Rattle.handler_code.specs.declared.code.OpCode.{OpCode}
 use Rattle.handler_code.specs.declared.code.OpCode.TheVariants as op
 use Rattle.code_walks.specs.Kinds.{filled, gives, needs, type_at, with_sets}
-use Rattle.suspend_split.specs.Follows.{get_op, put_op, slot_of}
+use Rattle.compiled_meaning.specs.Follows.{get_op, put_op, slot_of}
 use Rattle.compiled_rules.proofs.Doorways.{is_declared}
 use Rattle.compiled_rules.proofs.Spans.{before_or}
 

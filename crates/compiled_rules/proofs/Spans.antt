@@ -7,8 +7,8 @@ use Rattle.teapot_tree.specs.declared.expr.Expr.{Expr}
 use Rattle.teapot_tree.specs.declared.protocol.Protocol.{Protocol}
 use Rattle.handler_code.specs.declared.code.OpCode.{OpCode}
 use Rattle.handler_code.specs.Live.{HasOp}
-use Rattle.suspend_split.specs.Follows.{Evaluates, EvaluatesAll}
-use Rattle.suspend_split.specs.Follows as follows
+use Rattle.compiled_meaning.specs.Follows.{Evaluates, EvaluatesAll}
+use Rattle.compiled_meaning.specs.Follows as follows
 
 pub le_true : (a b : ℕ) → a ≤ b → nat_le a b ≡ true
 le_true a b h = by_test (leb_tells a b)

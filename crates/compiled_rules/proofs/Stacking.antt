@@ -9,7 +9,7 @@ use Rattle.handler_code.specs.declared.code.OpCode.TheVariants as op
 use Rattle.handler_code.specs.Live.{HasOp}
 use Rattle.code_walks.specs.Parts.{AtOp, end_of, op_at, part_of}
 use Rattle.code_walks.specs.Stacks.{BreaksStack, depth_after, depth_at, is_served, target}
-use Rattle.suspend_split.specs.Whole.{IsCode}
+use Rattle.compiled_meaning.specs.Whole.{IsCode}
 use Rattle.compiled_rules.proofs.Depths.{Clears, serves}
 use Rattle.compiled_rules.proofs.Facts.{each_op, holds, op_is}
 use Rattle.compiled_rules.proofs.Handled.{Handled, handled}

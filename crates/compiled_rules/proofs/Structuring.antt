@@ -16,8 +16,8 @@ use Rattle.handler_code.specs.declared.code.OpCode.TheVariants as op
 use Rattle.handler_code.specs.Doors.{handlers_at, kind_of, same_kind}
 use Rattle.code_walks.specs.Parts.{handler_of}
 use Rattle.code_rules.specs.Structure.{begins, has_slots, is_door_of, is_rest_of, is_structured, rises_from, slot_count}
-use Rattle.suspend_split.specs.Compiled.{code_of, loops_in, rests_in}
-use Rattle.suspend_split.specs.Whole.{Entry, IsCode, doors_from, entries_code, entries_of}
+use Rattle.compiled_meaning.specs.Compiled.{code_of, loops_in, rests_in}
+use Rattle.compiled_meaning.specs.Whole.{Entry, IsCode, doors_from, entries_code, entries_of}
 use Rattle.compiled_rules.proofs.Doorways.{all_declared, found_once, is_declared, once}
 use Rattle.compiled_rules.proofs.Facts.{fin_there, has_handler, has_state, no_each, slots_are}
 use Rattle.compiled_rules.proofs.Handled.{Handled, body_code, handled, names_of}

@@ -26,8 +26,8 @@ use Rattle.handler_code.specs.declared.code.OpCode.TheVariants as op
 use Rattle.handler_code.specs.Live.{HasOp}
 use Rattle.code_walks.specs.Kinds.{gives, has_loop_slots, is_typed, needs, needs_two, pushed_on, put_on, top_type, type_at, types_after, without}
 use Rattle.code_walks.specs.Kinds as kinds
-use Rattle.suspend_split.specs.Follows.{Evaluates, EvaluatesAll, atom_op, get_op, put_op, slot_of}
-use Rattle.suspend_split.specs.Follows as follows
+use Rattle.compiled_meaning.specs.Follows.{Evaluates, EvaluatesAll, atom_op, get_op, put_op, slot_of}
+use Rattle.compiled_meaning.specs.Follows as follows
 use Rattle.compiled_rules.proofs.Slotting.{SlotsFit}
 use Rattle.compiled_rules.proofs.Spans.{Over, over_joined, over_none, over_one, rises}
 

@@ -24,12 +24,12 @@ use Rattle.teapot_meaning.proofs.Sound.{Keeps, are_sound, keeps, scope_of, unpac
 use Rattle.handler_code.specs.declared.code.OpCode.{OpCode}
 use Rattle.handler_code.specs.declared.code.OpCode.TheVariants as op
 use Rattle.handler_code.specs.Live.{HasOp}
-use Rattle.suspend_split.specs.Compiled.{Piece, all_code, code_of, expr_code, loops_in, op_list, rests_in, stmt_code}
-use Rattle.suspend_split.specs.Follows.{Evaluates, EvaluatesAll, get_op, put_op, slot_of}
-use Rattle.suspend_split.proofs.Accepted.{first_keeps, local_has, put_has, simple_keeps}
-use Rattle.suspend_split.proofs.Handlers.{append-nil}
-use Rattle.suspend_split.proofs.Placed.{all_placed, by_layer, expr_code-is, expr_placed, layer_code, layer_expr, loops_in-append, size, size-is}
-use Rattle.suspend_split.proofs.Places.{HasAt, has_back, has_front}
+use Rattle.compiled_meaning.specs.Compiled.{Piece, all_code, code_of, expr_code, loops_in, op_list, rests_in, stmt_code}
+use Rattle.compiled_meaning.specs.Follows.{Evaluates, EvaluatesAll, get_op, put_op, slot_of}
+use Rattle.compiled_meaning.proofs.Accepted.{first_keeps, local_has, put_has, simple_keeps}
+use Rattle.compiled_meaning.proofs.Handlers.{append-nil}
+use Rattle.compiled_meaning.proofs.Placed.{all_placed, by_layer, expr_code-is, expr_placed, layer_code, layer_expr, loops_in-append, size, size-is}
+use Rattle.compiled_meaning.proofs.Places.{HasAt, has_back, has_front}
 
 -- ---- expressions have no loops
 

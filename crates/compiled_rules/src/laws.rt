@@ -1,7 +1,7 @@
 ghost use Rattle.teapot_tree.specs.Rules.{IsAccepted};
 ghost use Rattle.teapot_tree.specs.declared.protocol.Protocol.{Protocol};
 ghost use Rattle.handler_code.specs.declared.code.Code.{Code};
-ghost use Rattle.suspend_split.specs.Whole.{IsCode};
+ghost use Rattle.compiled_meaning.specs.Whole.{IsCode};
 ghost use Rattle.code_rules.specs.Rules.{KeepsRules};
 ghost use Rattle.compiled_rules.specs.Room.{NeedsLittle};
 

@@ -1,4 +1,2 @@
-pub mod Compiled
-pub mod Follows
-pub mod Stands
-pub mod Whole
+pub mod Drafts
+pub mod Tables

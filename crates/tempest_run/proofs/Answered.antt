@@ -11,7 +11,7 @@ use Rattle.dsm_runs.specs.Worlds.{World, start}
 use Rattle.journal.specs.declared.reports.Options.{Options}
 use Rattle.teapot_tree.specs.declared.protocol.Protocol.{Protocol}
 use Rattle.handler_code.specs.declared.code.Code.{Code}
-use Rattle.suspend_split.specs.Whole.{IsCode}
+use Rattle.compiled_meaning.specs.Whole.{IsCode}
 use Rattle.tempest_run.specs.Answering.{Answer, Answers, AnswersIn, TellsOfCode, TellsOfRun, code_answer, report_answer}
 use Rattle.tempest_run.specs.Laws.{AnswerIsOne}
 use Rattle.tempest_run.specs.Inputs.{input_of}

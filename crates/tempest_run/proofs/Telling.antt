@@ -16,7 +16,7 @@ use Rattle.journal.specs.History.{break_from, first_break}
 use Rattle.journal.specs.Reports.{report_of}
 use Rattle.teapot_tree.specs.declared.protocol.Protocol.{Protocol}
 use Rattle.handler_code.specs.declared.code.Code.{Code}
-use Rattle.suspend_split.specs.Whole.{IsCode}
+use Rattle.compiled_meaning.specs.Whole.{IsCode}
 use Rattle.code_text.specs.Texts.{text_of}
 use Rattle.tempest_run.specs.Answering.{Answer, TellsOfCode, report_answer, status_of}
 use Rattle.tempest_run.specs.declared.status.Status.{Status}

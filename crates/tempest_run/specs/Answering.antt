@@ -14,7 +14,7 @@ use Rattle.teapot_tree.specs.declared.protocol.Protocol.{Protocol}
 use Rattle.teapot_tree.specs.Parts.{handlers_of}
 use Rattle.teapot_print.specs.Text.{canon}
 use Rattle.handler_code.specs.declared.code.Code.{Code}
-use Rattle.suspend_split.specs.Whole.{IsCode}
+use Rattle.compiled_meaning.specs.Whole.{IsCode}
 use Rattle.code_text.specs.Texts.{text_of}
 use Rattle.dsm_runs.specs.declared.outcome.Outcome.{Outcome}
 use Rattle.dsm_runs.specs.declared.outcome.Outcome.TheVariants as outcomes

@@ -8,7 +8,7 @@ use crate::status::Status;
 use code_text::code_text;
 use dsm_model::{Global, settle};
 use dsm_runs::{Outcome, Setup, runs_are_short, schedules_are_one_run};
-use handler_compiler::split;
+use suspend_split::split;
 use journal::{Final, Options, finals_of, first_break, history_is_told, report, words_of};
 use mini_asm::Flat;
 use std::alloc;

@@ -1,0 +1,4 @@
+pub mod Compiled
+pub mod Follows
+pub mod Stands
+pub mod Whole

@@ -1,5 +1,0 @@
-use Rattle.handler_compiler.proofs.Bits.{has_bit-or}
-use Rattle.handler_compiler.proofs.live.either.Goals as goal
-
-pub returns : goal.returns
-returns c = λ k. has_bit-or c.args.a c.args.b k

@@ -1,6 +1,0 @@
-use Rattle.std.proofs.Common.{◌≡◌, take}
-use Rattle.suspend_split.specs.Compiled.{code_of}
-use Rattle.handler_compiler.proofs.stmts.+stmts.Given as goal
-
-abbrev pub invariant-list_ops-stmts : goal.invariant-list_ops-stmts
-invariant-list_ops-stmts l = l.ops ≡ code_of l.w.protocol.now l.names (take l.s-index l.stmts) l.start.at l.start.rest l.start.slot

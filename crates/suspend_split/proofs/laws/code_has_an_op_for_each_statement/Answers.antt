@@ -1,5 +1,0 @@
-use Rattle.suspend_split.proofs.Counted.{held}
-use Rattle.suspend_split.proofs.laws.code_has_an_op_for_each_statement.Goals as goal
-
-pub returns : goal.returns
-returns c = held

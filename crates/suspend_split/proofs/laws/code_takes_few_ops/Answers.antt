@@ -1,5 +1,0 @@
-use Rattle.suspend_split.proofs.Entering.{meant_soon}
-use Rattle.suspend_split.proofs.laws.code_takes_few_ops.Goals as goal
-
-pub returns : goal.returns
-returns c = λ p code. meant_soon p code (c.stops_once.ensures p code)
