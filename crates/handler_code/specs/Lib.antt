@@ -1,3 +1,4 @@
 pub mod Doors
 pub mod Live
 pub mod Machine
+pub mod Stacks
