@@ -106,6 +106,18 @@ impl Conts {
         }
     }
 
+    /// The record that a key names, which stays.
+    pub fn get(&self, key: RecordKey) -> Record
+        requires { IsSome (record_at self.now key) }
+        ensures { record_at self.now key ≡ Some result }
+    {
+        match key.class {
+            0 => self.small[key.at].whole(),
+            1 => self.medium[key.at].whole(),
+            _ => self.large[key.at],
+        }
+    }
+
     /// How many records the chain from this one on has.
     pub fn depth_of(&self, key: RecordKey) -> u8
         requires { IsSome (record_at self.now key) }

@@ -37,6 +37,7 @@ fn class_after_trip(rt: &impl Abort, alloc: Global, count: usize) -> Result<u8, 
     let saved = record_with(count, None, 1);
     let key = store.save(saved);
     assert_eq!(rt; store.depth_of(key), 1);
+    assert_eq!(rt; store.get(key), saved);
     assert_eq!(rt; store.take(key), saved);
     Ok(key.class)
 }
