@@ -15,6 +15,7 @@ use Rattle.tw_base.specs.Lists.{Each, sum_below}
 use Rattle.dsm_runs.specs.Messages.{chan_eq, on_wire, posted}
 use Rattle.dsm_runs.specs.Events.{Acts, latest}
 use Rattle.dsm_runs.specs.Worlds.{taken, takes_from, World, Step, Runs, start}
+use Rattle.dsm_runs.specs.Invariants.{Bounded, UpTo, done}
 use Rattle.dsm_runs.proofs.Lists.{nat_eq_refl, chan_eq_refl, Each-append, Each-implied, Each-filter, Each-numbered}
 use Rattle.dsm_runs.proofs.Sends.{IsSent, step_sent}
 use Rattle.dsm_runs.proofs.OneEnd.{taken_here}
@@ -31,11 +32,11 @@ sum_one (suc n) f g i l h =
       | no d ↦ omega (arith, sum_one n f g i (omega arith) (λ j k. h j (omega arith)), h n (omega arith) (omega arith))
     ]
 
-sum_zero : (n : ℕ) → sum_below n (λ i. 0) ≡ 0
+pub sum_zero : (n : ℕ) → sum_below n (λ i. 0) ≡ 0
 sum_zero zero = refl
 sum_zero (suc n) = omega (arith, sum_zero n)
 
-sum_bound : (n c : ℕ) (f : ℕ → ℕ) → ((j : ℕ) → f j ≤ c) → sum_below n f ≤ n * c
+pub sum_bound : (n c : ℕ) (f : ℕ → ℕ) → ((j : ℕ) → f j ≤ c) → sum_below n f ≤ n * c
 sum_bound zero c f h = omega arith
 sum_bound (suc n) c f h = omega (arith, sum_bound n c f h, h n)
 
@@ -55,20 +56,6 @@ acts_counted s i l front x e sends act.Step p = let p0 = p.0.instructs in let m 
 acts_counted s i l front x e sends (act.Fault store block) p = let p0 = p.instructs in let m = p0.may.instructions in record { one = omega arith; instructions = λ h. omega arith; handled = λ h. omega arith }
 acts_counted s i l front x e sends (act.Redelivered kind block from) p = let p0 = p.counts in let m = p0.may.handled in record { one = omega arith; instructions = λ h. omega arith; handled = λ h. omega arith }
 acts_counted s i l front x e sends (act.Delivered kind block from chan number) p = let p0 = p.counts in let m = p0.may.handled in record { one = omega arith; instructions = λ h. omega arith; handled = λ h. omega arith }
-
-abbrev done : World → ℕ → ℕ
-done g i = (g.locals i).instructions + (g.locals i).handled
-
-abbrev UpTo : ℕ → Message → Type 0
-UpTo k m = m.stamp ≤ k
-
--- after k events
-pub record Bounded (s : Setup) (k : ℕ) (g : World) : Type 0 where
-  pub total : sum_below s.shape.nodes (done g) ≡ k
-  pub instructions : (i : ℕ) → (g.locals i).instructions ≤ s.shape.budget
-  pub handled : (i : ℕ) → (g.locals i).handled ≤ handler_budget_of s.shape
-  pub clocks : (i : ℕ) → (g.locals i).clock ≤ k
-  pub wires : (f t : ℕ) (c : Chan) → Each (UpTo k) (g.wires f t c)
 
 each_rest : (P : Message → Type 0) (xs ys : List Message) → Each P (xs ++ ys) → Each P ys
 each_rest P [] ys h = h
@@ -132,7 +119,7 @@ step_bounded s k g e g2 b r = record {
     late : e.stamp ≤ k + 1
     late = step_late s k g e g2 b r
 
-run_bounded : (s : Setup) (es : List Entry) (k : ℕ) (g g2 : World) → Bounded s k g → Runs s g es g2 → Bounded s (k + length es) g2 × Each (λ e. e.stamp ≤ k + length es) es
+pub run_bounded : (s : Setup) (es : List Entry) (k : ℕ) (g g2 : World) → Bounded s k g → Runs s g es g2 → Bounded s (k + length es) g2 × Each (λ e. e.stamp ≤ k + length es) es
 run_bounded s [] k g g2 b r = (subst (λ (x : World). Bounded s (k + 0) x) r (subst (λ n. Bounded s n g) (omega arith) b), tt)
 run_bounded s (e ∷ es) k g g2 b r =
     let rest = run_bounded s es (k + 1) r.0 g2 (step_bounded s k g e r.0 b r.1) r.2 in
@@ -140,10 +127,17 @@ run_bounded s (e ∷ es) k g g2 b r =
     let shift : k + 1 + length es ≡ k + suc (length es) = omega arith in
     (subst (λ n. Bounded s n g2) shift rest.0, (omega (arith, now, shift), Each-implied (λ x. x.stamp ≤ k + 1 + length es) (λ x. x.stamp ≤ k + suc (length es)) es (λ x h. omega (arith, h, shift)) rest.1))
 
-pub few_events : (s : Setup) (journal : List Entry) (g : World) → Runs s (start s) journal g → (length journal ≤ s.shape.nodes * (s.shape.budget + handler_budget_of s.shape)) × Each (λ e. e.stamp ≤ length journal) journal
-few_events s journal g r =
+-- what a run from the start comes to
+pub runs_bounded : (s : Setup) (journal : List Entry) (g : World) → Runs s (start s) journal g → Bounded s (length journal) g × Each (λ e. e.stamp ≤ length journal) journal
+runs_bounded s journal g r =
     let at_start : Bounded s 0 (start s) = record { total = sum_zero s.shape.nodes; instructions = λ i. omega arith; handled = λ i. omega arith; clocks = λ i. omega arith; wires = λ f t c. tt } in
     let all = run_bounded s journal 0 (start s) g at_start r in
-    let few : sum_below s.shape.nodes (done g) ≤ s.shape.nodes * (s.shape.budget + handler_budget_of s.shape) = sum_bound s.shape.nodes (s.shape.budget + handler_budget_of s.shape) (done g) (λ i. omega (arith, all.0.instructions i, all.0.handled i)) in
-    let total : sum_below s.shape.nodes (done g) ≡ 0 + length journal = all.0.total in
-    (omega (arith, few, total), Each-implied (λ e. e.stamp ≤ 0 + length journal) (λ e. e.stamp ≤ length journal) journal (λ x h. omega (arith, h)) all.1)
+    let none : 0 + length journal ≡ length journal = omega arith in
+    (subst (λ n. Bounded s n g) none all.0, Each-implied (λ e. e.stamp ≤ 0 + length journal) (λ e. e.stamp ≤ length journal) journal (λ x h. omega (arith, h)) all.1)
+
+pub few_events : (s : Setup) (journal : List Entry) (g : World) → Runs s (start s) journal g → length journal ≤ s.shape.nodes * (s.shape.budget + handler_budget_of s.shape)
+few_events s journal g r =
+    let all = (runs_bounded s journal g r).0 in
+    let few : sum_below s.shape.nodes (done g) ≤ s.shape.nodes * (s.shape.budget + handler_budget_of s.shape) = sum_bound s.shape.nodes (s.shape.budget + handler_budget_of s.shape) (done g) (λ i. omega (arith, all.instructions i, all.handled i)) in
+    let total : sum_below s.shape.nodes (done g) ≡ length journal = all.total in
+    omega (arith, few, total)

@@ -79,7 +79,7 @@ delivery s g e g2 kind block from c number r is = (
 -- A node that is not held while it handles a message is not held afterwards: its budgets, its stamps and its failure do not come back.
 pub may_before : (s : Setup) (i : ℕ) (l : Local) (front : Option Message) (l2 : Local) (e : Entry) (sends : List Message) → LocalStep s i l front l2 e sends → CountsHandler s l l2 → l.mode ≡ mode.Woken → MayInstruct s l2 → MayInstruct s l
 may_before s i l front l2 e sends r counts woken may = record {
-  sound = counts.may.sound;
+  unfailed = counts.may.unfailed;
   ready = rw woken tt;
   instructions = omega (arith, counts.instructions, may.instructions);
   sent = omega (arith, r.sent, may.sent);

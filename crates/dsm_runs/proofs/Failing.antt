@@ -15,9 +15,9 @@ not_both o why e f = absurd cc
 
 pub nodes_over : FailedNodesAreOver
 nodes_over s g i why failed = record {
-  no_instruction = λ h. not_both _ why failed h.1.sound;
-  no_redelivery = λ h. not_both _ why failed h.1.may.sound;
-  no_delivery = λ f c h. not_both _ why failed h.2.may.sound;
+  no_instruction = λ h. not_both _ why failed h.1.unfailed;
+  no_redelivery = λ h. not_both _ why failed h.1.may.unfailed;
+  no_delivery = λ f c h. not_both _ why failed h.2.may.unfailed;
 }
 
 none_here : (s : Setup) (g : World) (i : ℕ) (a : Act) → IsOver s g i → IsEnabled s g (event_at i a) → ⊥

@@ -3,10 +3,10 @@ use Rattle.std.proofs.Common.{ℕ, List, [], ◌∷◌, ◌++◌, refl, sym, sub
 use Rattle.tw_base.specs.declared.entry.Entry.{Entry}
 use Rattle.dsm_runs.specs.Setups.{Setup}
 use Rattle.dsm_runs.specs.Worlds.{World, Runs}
-use Rattle.dsm_runs.specs.Replays.{Course, Goes, GoesOn}
+use Rattle.dsm_runs.specs.Replays.{Course, ReplaysOne, ReplaysOn}
 
-pub log_goes_on : (s : Setup) (i : ℕ) (es : List Entry) (a b d : Course) (e : Entry) → GoesOn s i a es b → Goes s i b e d → GoesOn s i a (es ++ e ∷ []) d
-log_goes_on s i [] a b d e r q = (d, subst (λ (x : Course). Goes s i x e d) (sym r) q, refl)
+pub log_goes_on : (s : Setup) (i : ℕ) (es : List Entry) (a b d : Course) (e : Entry) → ReplaysOn s i a es b → ReplaysOne s i b e d → ReplaysOn s i a (es ++ e ∷ []) d
+log_goes_on s i [] a b d e r q = (d, subst (λ (x : Course). ReplaysOne s i x e d) (sym r) q, refl)
 log_goes_on s i (x ∷ xs) a b d e r q = (r.0, r.1, log_goes_on s i xs r.0 b d e r.2 q)
 
 pub run_goes_on : (s : Setup) (es more : List Entry) (g h k : World) → Runs s g es h → Runs s h more k → Runs s g (es ++ more) k

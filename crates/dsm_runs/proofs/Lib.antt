@@ -22,3 +22,6 @@ pub mod Handled
 pub mod StartFits
 pub mod RunStates
 pub mod Failing
+pub mod Repeating
+pub mod FlatBeside
+pub mod Enabling

@@ -10,7 +10,7 @@ use Rattle.dsm_runs.specs.Setups.{Setup}
 use Rattle.tw_base.specs.Lists.{Each}
 use Rattle.dsm_runs.specs.Messages.{on_wire, posted}
 use Rattle.dsm_runs.specs.Worlds.{taken, Wires, Step, Runs}
-use Rattle.dsm_runs.specs.Replays.{Course, GoesOn}
+use Rattle.dsm_runs.specs.Replays.{Course, ReplaysOn}
 use Rattle.dsm_runs.specs.Merges.{joined, Before, IsSorted, is_of}
 use Rattle.dsm_runs.proofs.Lists.{Each-implied, Each-filter, nat_eq_refl, length-numbered}
 use Rattle.dsm_runs.proofs.Sends.{NotEarlier, sends_later, takes_later}
@@ -38,7 +38,7 @@ same_end a b w left p before after = λ j. joined (λ i. p i j) (λ f t c. same_
 
 -- what the event of an entry takes is on the wires
 front_is_there : (s : Setup) (e : Entry) (a b : ℕ → Course) (w left : Wires) (mine rest : List Entry) (f t : ℕ) (c : Chan) (a2 : ℕ → Course) (r : Turn s e a a2)
-    → GoesOn s f (a f) mine (b f) → Each (NotEarlier e.stamp) mine → GoesOn s t (a2 t) rest (b t) → AgreesAll a w → AgreesAll b left
+    → ReplaysOn s f (a f) mine (b f) → Each (NotEarlier e.stamp) mine → ReplaysOn s t (a2 t) rest (b t) → AgreesAll a w → AgreesAll b left
     → (more : List Message) × (w f t c ≡ taken e r.front f t c ++ more)
 front_is_there s e a b w left mine rest f t c a2 r sender late receiver before after =
     let sends = sends_later s f e.stamp mine (a f) (b f) t c sender late in
@@ -82,21 +82,21 @@ turn_agrees s e a a2 w between r takes before f t c =
     ∙ ap (λ (x : List Message). x ++ (between f t c ++ put)) (sym (r.took f t c))
 
 -- the other nodes' logs go on as they did
-go_on : (s : Setup) (e : Entry) (es : List Entry) (a b : ℕ → Course) (mid : Course) → GoesOn s e.node mid (filter (is_of e.node) es) (b e.node)
-    → ((i : ℕ) → GoesOn s i (a i) (filter (is_of i) (e ∷ es)) (b i)) → (k : ℕ) → GoesOn s k (moved a e.node mid k) (filter (is_of k) es) (b k)
+go_on : (s : Setup) (e : Entry) (es : List Entry) (a b : ℕ → Course) (mid : Course) → ReplaysOn s e.node mid (filter (is_of e.node) es) (b e.node)
+    → ((i : ℕ) → ReplaysOn s i (a i) (filter (is_of i) (e ∷ es)) (b i)) → (k : ℕ) → ReplaysOn s k (moved a e.node mid k) (filter (is_of k) es) (b k)
 go_on s e es a b mid here all k = elim (cases_eq k e.node) [
-  | inl q ↦ rw q (subst (λ (x : Course). GoesOn s e.node x (filter (is_of e.node) es) (b e.node)) (sym (moved_here a e.node mid)) here)
-  | inr d ↦ subst (λ (x : Course). GoesOn s k x (filter (is_of k) es) (b k)) (sym (moved_other a e.node mid k d)) (subst (λ (l : List Entry). GoesOn s k (a k) l (b k)) (of_other k e es d) (all k))
+  | inl q ↦ rw q (subst (λ (x : Course). ReplaysOn s e.node x (filter (is_of e.node) es) (b e.node)) (sym (moved_here a e.node mid)) here)
+  | inr d ↦ subst (λ (x : Course). ReplaysOn s k x (filter (is_of k) es) (b k)) (sym (moved_other a e.node mid k d)) (subst (λ (l : List Entry). ReplaysOn s k (a k) l (b k)) (of_other k e es d) (all k))
 ]
 
-pub merging : (s : Setup) (es : List Entry) (a b : ℕ → Course) (w left : Wires) → ((i : ℕ) → GoesOn s i (a i) (filter (is_of i) es) (b i)) → AgreesAll a w → AgreesAll b left → IsSorted es
+pub merging : (s : Setup) (es : List Entry) (a b : ℕ → Course) (w left : Wires) → ((i : ℕ) → ReplaysOn s i (a i) (filter (is_of i) es) (b i)) → AgreesAll a w → AgreesAll b left → IsSorted es
     → Runs s (joined a w) es (joined b left)
 merging s [] a b w left logs before after sorted = same_end a b w left logs before after
 merging s (e ∷ es) a b w left logs before after sorted =
-    let mine = subst (λ (l : List Entry). GoesOn s e.node (a e.node) l (b e.node)) (of_here e es) (logs e.node) in
+    let mine = subst (λ (l : List Entry). ReplaysOn s e.node (a e.node) l (b e.node)) (of_here e es) (logs e.node) in
     let a2 : ℕ → Course = moved a e.node mine.0 in
     let r : Turn s e a a2 = turn s e a mine.0 mine.1 in
-    let rest : (k : ℕ) → GoesOn s k (a2 k) (filter (is_of k) es) (b k) = go_on s e es a b mine.0 mine.2 logs in
+    let rest : (k : ℕ) → ReplaysOn s k (a2 k) (filter (is_of k) es) (b k) = go_on s e es a b mine.0 mine.2 logs in
     let there : (f t : ℕ) (c : Chan) → (more : List Message) × (w f t c ≡ taken e r.front f t c ++ more) =
     λ f t c. front_is_there s e a b w left (filter (is_of f) (e ∷ es)) (filter (is_of t) es) f t c a2 r (logs f) (not_earlier e es f sorted) (rest t) before after in
     let between : Wires = λ f t c. (there f t c).0 in

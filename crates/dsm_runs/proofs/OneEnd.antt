@@ -9,7 +9,7 @@ use Rattle.tw_base.specs.declared.message.Message.{Message}
 use Rattle.dsm_runs.specs.Setups.{Setup}
 use Rattle.dsm_runs.specs.Messages.{on_wire, posted}
 use Rattle.dsm_runs.specs.Worlds.{taken, takes_from, World, Step, Runs}
-use Rattle.dsm_runs.specs.Replays.{Course, Goes, GoesOn}
+use Rattle.dsm_runs.specs.Replays.{Course, ReplaysOne, ReplaysOn}
 use Rattle.dsm_runs.proofs.Lists.{nat_eq_refl}
 use Rattle.dsm_runs.proofs.Sends.{takes_later}
 use Rattle.dsm_runs.proofs.Turns.{cons_head}
@@ -51,7 +51,7 @@ pub run_world : (s : Setup) (es : List Entry) (g x y : World) → Runs s g es x 
 run_world s [] g x y p q = sym p ∙ q
 run_world s (e ∷ es) g x y p q = run_world s es p.0 x y p.2 (subst (λ (mid : World). Runs s mid es y) (sym (step_world s g e p.0 q.0 p.1 q.1)) q.2)
 
-goes_course : (s : Setup) (i : ℕ) (es : List Entry) (e : Entry) (a b d x y : Course) (p : Goes s i a e b) (q : Goes s i a e d) → GoesOn s i b es x → GoesOn s i d es y → ((f : ℕ) (c : Chan) → x.took f c ≡ y.took f c) → b ≡ d
+goes_course : (s : Setup) (i : ℕ) (es : List Entry) (e : Entry) (a b d x y : Course) (p : ReplaysOne s i a e b) (q : ReplaysOne s i a e d) → ReplaysOn s i b es x → ReplaysOn s i d es y → ((f : ℕ) (c : Chan) → x.took f c ≡ y.took f c) → b ≡ d
 goes_course s i es e a b d x y p q onp onq took = same_course b d
     (step_local s i a.local p.front q.front b.local d.local e p.sends q.sends front p.local q.local)
     (λ f c. p.took f c ∙ ap (λ (o : Option Message). a.took f c ++ taken e o f i c) front ∙ sym (q.took f c))
@@ -70,7 +70,7 @@ goes_course s i es e a b d x y p q onp onq took = same_course b d
     front : p.front ≡ q.front
     front = acts_front s i a.local p.front q.front b.local d.local e e p.sends q.sends e.act heads p.local.acts q.local.acts
 
-pub goes_on_course : (s : Setup) (i : ℕ) (es : List Entry) (a x y : Course) → GoesOn s i a es x → GoesOn s i a es y → ((f : ℕ) (c : Chan) → x.took f c ≡ y.took f c) → x ≡ y
+pub goes_on_course : (s : Setup) (i : ℕ) (es : List Entry) (a x y : Course) → ReplaysOn s i a es x → ReplaysOn s i a es y → ((f : ℕ) (c : Chan) → x.took f c ≡ y.took f c) → x ≡ y
 goes_on_course s i [] a x y p q took = sym p ∙ q
 goes_on_course s i (e ∷ es) a x y p q took =
-    goes_on_course s i es p.0 x y p.2 (subst (λ (mid : Course). GoesOn s i mid es y) (sym (goes_course s i es e a p.0 q.0 x y p.1 q.1 p.2 q.2 took)) q.2) took
+    goes_on_course s i es p.0 x y p.2 (subst (λ (mid : Course). ReplaysOn s i mid es y) (sym (goes_course s i es e a p.0 q.0 x y p.1 q.1 p.2 q.2 took)) q.2) took

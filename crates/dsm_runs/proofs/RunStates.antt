@@ -40,23 +40,20 @@ use Rattle.dsm_runs.specs.Setups.{IsSetup, Setup, asked, block_of, offset_of, si
 use Rattle.dsm_runs.specs.Locals.{IsFirst, Local}
 use Rattle.dsm_runs.specs.Messages.{chan_eq, fault, message_of, on_wire, outgoing, posted}
 use Rattle.dsm_runs.specs.Events.{Acts, Completes, Handles, IsRefused, SameBlocks, Stores, free, freed_if, with_kept, with_word_here}
-use Rattle.dsm_runs.specs.Worlds.{Runs, Step, World, start, taken, takes_from}
-use Rattle.dsm_runs.specs.Invariants.{IsBlockAt, IsDeferredAt, IsNodeOf, IsOnTheWay, IsRunState, RunsKeepTheirState, is_fault}
+use Rattle.dsm_runs.specs.Worlds.{Runs, World, start, taken, takes_from}
+use Rattle.dsm_runs.specs.Replays.{Course, ReplaysOn, ReplaysOne, begin}
+use Rattle.dsm_runs.specs.Invariants.{EventsKeepNodes, IsBlockAt, IsCourseOf, IsDeferredAt, IsNodeOf, IsOnTheWay, IsPosted, IsRunState, LogsKeepNodes, NodesStartSound, RunsKeepTheirState, StepsKeepTheirState, is_fault}
 use Rattle.dsm_runs.proofs.Asking.{AsksWell, asked_well}
 use Rattle.dsm_runs.proofs.Handled.{IsNoFault, does_leave}
 use Rattle.dsm_runs.proofs.Lists.{Each-append, Each-filter, Each-numbered, and_left, and_right, chan_eq_refl, nat_eq_refl}
 use Rattle.dsm_runs.proofs.OnWires.{each_behind}
+use Rattle.dsm_runs.proofs.OneEnd.{taken_here}
 use Rattle.dsm_runs.proofs.OneEntry.{front_on_wire}
+use Rattle.dsm_runs.proofs.Sends.{takes_later}
 use Rattle.dsm_runs.proofs.Stamps.{each_both, passes}
 use Rattle.dsm_runs.proofs.StartFits.{first_block}
 
 -- ---- what is sent
-
--- a message of the protocol that is sent, to whichever node
-record IsPosted (s : Setup) (m : Message) : Type 0 where
-  pub is_message : IsMessageOf s.protocol s.shape.words m
-  pub named : is_fault m.kind ≡ false
-  pub block : m.block < s.shape.blocks
 
 -- the arguments come back from their places
 args_back : (xs : List Value) → length xs ≤ 4 → take (length (used_args xs)) (padded_args xs) ≡ xs
@@ -79,7 +76,7 @@ few_declared p (kind.Named n) tree = go (slice_get p.messages n) refl
 sent_is_of : (p : Protocol) (words i b stamp : ℕ) (o : Out) → IsTree p → IsSendOf p words o → IsMessageOf p words (message_of p i b stamp o)
 sent_is_of p words i b stamp o tree h =
     let few : length o.args ≤ 4 = omega (arith, few_declared p o.kind tree, length-map o.args type_of, ap length h.types) in
-    record { known = h.known; types = ap (λ xs. map type_of xs) (args_back o.args few) ∙ h.types; carried = h.carried }
+    record { known = h.known; types = ap (λ xs. map type_of xs) (args_back o.args few) ∙ h.types; carried = h.carried; plain = h.plain }
 
 outs_posted : (s : Setup) (i b stamp : ℕ) (os : List Out) → IsTree s.protocol → b < s.shape.blocks → Each (IsSendOf s.protocol s.shape.words) os → Each IsNoFault os → Each (IsPosted s) (outgoing s.protocol i b stamp os)
 outs_posted s i b stamp [] tree lt h k = tt
@@ -123,7 +120,7 @@ kept_waits s i kept.No m ws q h = h
 kept_waits s i kept.Stale m ws q h = Each-append (Waits s i) ws _ h (q, tt)
 kept_waits s i kept.Eligible m ws q h = Each-append (Waits s i) ws _ h (q, tt)
 
-first_waits : (s : Setup) (i : ℕ) (m : Message) (earlier later ws : List Waiting) → IsFirst m earlier later ws → Each (Waits s i) ws → IsDeferredAt s i m × Each (Waits s i) (earlier ++ later)
+pub first_waits : (s : Setup) (i : ℕ) (m : Message) (earlier later ws : List Waiting) → IsFirst m earlier later ws → Each (Waits s i) ws → IsDeferredAt s i m × Each (Waits s i) (earlier ++ later)
 first_waits s i m earlier later ws first h = go earlier (subst (λ (xs : List Waiting). Each (Waits s i) xs) first.found h)
   where
     go : (xs : List Waiting) → Each (Waits s i) (xs ++ record { message = m; eligible = true } ∷ later) → IsDeferredAt s i m × Each (Waits s i) (xs ++ later)
@@ -131,20 +128,20 @@ first_waits s i m earlier later ws first h = go earlier (subst (λ (xs : List Wa
     go (x ∷ xs) k = let rest = go xs k.1 in (rest.0, (k.0, rest.1))
 
 -- a message that comes is no fault
-arrived : (s : Setup) (f t : ℕ) (m : Message) → IsOnTheWay s f t m → IsDeferredAt s t m
+pub arrived : (s : Setup) (f t : ℕ) (m : Message) → IsOnTheWay s f t m → IsDeferredAt s t m
 arrived s f t m h = record { is_message = h.is_message; to = h.to; own = λ is. absurd (not_both (is_fault m.kind) h.named is); block = h.block }
   where
     not_both : (b : Bool) → b ≡ false → b ≡ true → ⊥
     not_both b e f = absurd cc
 
 fault_of : (s : Setup) (store : Bool) (b i : ℕ) → IsMessageOf s.protocol s.shape.words (fault store b i)
-fault_of s true b i = record { known = refl; types = refl; carried = λ h. absurd cc }
-fault_of s false b i = record { known = refl; types = refl; carried = λ h. absurd cc }
+fault_of s true b i = record { known = refl; types = refl; carried = λ h. absurd cc; plain = λ h. refl }
+fault_of s false b i = record { known = refl; types = refl; carried = λ h. absurd cc; plain = λ h. refl }
 
 block_within : (s : Setup) (address b : ℕ) → IsSetup s → b ≡ block_of s address → address < size_of s → b < s.shape.blocks
 block_within s address b is e lt = subst (λ k. k < s.shape.blocks) (sym e) (div_below address s.shape.words s.shape.blocks is.limits.some_word (subst (λ k. address < k) (mul_comm s.shape.words s.shape.blocks) lt))
 
-refused_within : (s : Setup) (n : Next) (store : Bool) (b : ℕ) (tag : Tag) → IsSetup s → AsksWell (size_of s) n → IsRefused s n store b tag → b < s.shape.blocks
+pub refused_within : (s : Setup) (n : Next) (store : Bool) (b : ℕ) (tag : Tag) → IsSetup s → AsksWell (size_of s) n → IsRefused s n store b tag → b < s.shape.blocks
 refused_within s (next.Access true address value) store b tag is well h = block_within s address b is h.1 well
 refused_within s (next.Access false address value) store b tag is well h = block_within s address b is h.1 well.0
 refused_within s (next.Faa address added) store b tag is well h = block_within s address b is h.1 well
@@ -230,15 +227,52 @@ acts_keep s i l front l2 e sends (act.Delivered kind block from chan number) is 
     let here : takes_from (act.Delivered kind block from chan number) from chan ≡ true = rw (nat_eq_refl from) (chan_eq_refl chan) in
     handles_keep s i e.stamp r.message l l2 sends e.after is h (comes from chan r.message here r.is_front) r.handles
 
+-- ---- one node alone
+
+pub nodes_start : NodesStartSound
+nodes_start s i is = record { blocks = λ b lt. first_block s i b is lt; deferred = tt }
+
+pub events_keep : EventsKeepNodes
+events_keep s i l front l2 e sends is h comes r =
+    let k = acts_keep s i l front l2 e sends e.act is h (λ f c m q at. comes m at) r.acts in
+    record { node = k.0; sent = k.1; on = λ n t c. posted_on_way s n i t c sends k.1 }
+
+each_before : (P : Message → Type 0) (xs ys : List Message) → Each P (xs ++ ys) → Each P xs
+each_before P [] ys h = tt
+each_before P (x ∷ xs) ys h = (h.0, each_before P xs ys h.1)
+
+-- one entry of a log
+one_keeps : (s : Setup) (i : ℕ) (e : Entry) (a b : Course) → IsSetup s → IsCourseOf s i a → ((f : ℕ) (c : Chan) → Each (IsDeferredAt s i) (b.took f c)) → ReplaysOne s i a e b → IsCourseOf s i b
+one_keeps s i e a b is h took r = record {
+  node = here.0;
+  sent = λ t c. subst (λ (ms : List Message). Each (IsOnTheWay s i t) ms) (sym (r.sent t c))
+      (Each-append (IsOnTheWay s i t) (a.sent t c) _ (h.sent t c) (posted_on_way s (length (a.sent t c)) i t c r.sends here.1));
+}
+  where
+    comes : Comes s i r.front e.act
+    comes f c m q front =
+        let mine : b.took f c ≡ a.took f c ++ m ∷ [] = r.took f c ∙ ap (λ (ms : List Message). a.took f c ++ ms) (taken_here e r.front f i c m (sym r.local.node) q front) in
+        (each_behind (IsDeferredAt s i) (a.took f c) (m ∷ []) (subst (λ (ms : List Message). Each (IsDeferredAt s i) ms) mine (took f c))).0
+
+    here : Keeps s i b.local r.sends
+    here = acts_keep s i a.local r.front b.local e r.sends e.act is h.node comes r.local.acts
+
+log_keeps : (s : Setup) (i : ℕ) (es : List Entry) (a b : Course) → IsSetup s → IsCourseOf s i a → ((f : ℕ) (c : Chan) → Each (IsDeferredAt s i) (b.took f c)) → ReplaysOn s i a es b → IsCourseOf s i b
+log_keeps s i [] a b is h took r = subst (λ (x : Course). IsCourseOf s i x) r h
+log_keeps s i (e ∷ es) a b is h took r =
+    let before : (f : ℕ) (c : Chan) → Each (IsDeferredAt s i) (r.0.took f c) =
+    λ f c. let later = takes_later s i es r.0 b f c r.2 in each_before (IsDeferredAt s i) (r.0.took f c) later.0 (subst (λ (ms : List Message). Each (IsDeferredAt s i) ms) later.1 (took f c)) in
+    log_keeps s i es r.0 b is (one_keeps s i e a r.0 is h before r.1) took r.2
+
+pub logs_keep : LogsKeepNodes
+logs_keep s i log a is r took = log_keeps s i log (begin s i) a is (record { node = nodes_start s i is; sent = λ t c. tt }) took r
+
 -- ---- all nodes and wires
 
 start_keeps : (s : Setup) → IsSetup s → IsRunState s (start s)
-start_keeps s is = record {
-  nodes = λ i. record { blocks = λ b lt. first_block s i b is lt; deferred = tt };
-  wires = λ f t c. tt;
-}
+start_keeps s is = record { nodes = λ i. nodes_start s i is; wires = λ f t c. tt }
 
-step_keeps : (s : Setup) (g : World) (e : Entry) (g2 : World) → IsSetup s → IsRunState s g → Step s g e g2 → IsRunState s g2
+pub step_keeps : StepsKeepTheirState
 step_keeps s g e g2 is h r = record {
   nodes = λ k. elim (cases_eq k e.node) [
     | inl same ↦ subst (λ j. IsNodeOf s j (g2.locals j)) (sym same) here.0

@@ -14,7 +14,7 @@ use Rattle.tw_base.specs.Lists.{Each}
 use Rattle.dsm_runs.specs.Messages.{outgoing, on_wire, posted}
 use Rattle.dsm_runs.specs.Events.{LocalStep, Acts}
 use Rattle.dsm_runs.specs.Worlds.{taken}
-use Rattle.dsm_runs.specs.Replays.{Course, GoesOn}
+use Rattle.dsm_runs.specs.Replays.{Course, ReplaysOn}
 use Rattle.dsm_runs.proofs.Lists.{Each-append, Each-implied, Each-filter, Each-numbered}
 
 pub record IsSent (i stamp : ℕ) (m : Message) : Type 0 where
@@ -59,7 +59,7 @@ abbrev pub NotEarlier : ℕ → Entry → Type 0
 NotEarlier k e = k ≤ e.stamp
 
 -- What a node will still send, where each of its events has a stamp of at least k, has such stamps.
-pub sends_later : (s : Setup) (i k : ℕ) (es : List Entry) (a b : Course) (t : ℕ) (c : Chan) → GoesOn s i a es b → Each (NotEarlier k) es → (more : List Message) × (b.sent t c ≡ a.sent t c ++ more) × Each (From k) more
+pub sends_later : (s : Setup) (i k : ℕ) (es : List Entry) (a b : Course) (t : ℕ) (c : Chan) → ReplaysOn s i a es b → Each (NotEarlier k) es → (more : List Message) × (b.sent t c ≡ a.sent t c ++ more) × Each (From k) more
 sends_later s i k [] a b t c r h = ([], ap (λ (x : Course). x.sent t c) (sym r) ∙ sym (append-nil (a.sent t c)), tt)
 sends_later s i k (e ∷ es) a b t c r h =
     let rest = sends_later s i k es r.0 b t c r.2 h.1 in
@@ -71,7 +71,7 @@ sends_later s i k (e ∷ es) a b t c r h =
     )
 
 -- What a node will still take comes behind what it took.
-pub takes_later : (s : Setup) (i : ℕ) (es : List Entry) (a b : Course) (f : ℕ) (c : Chan) → GoesOn s i a es b → (more : List Message) × (b.took f c ≡ a.took f c ++ more)
+pub takes_later : (s : Setup) (i : ℕ) (es : List Entry) (a b : Course) (f : ℕ) (c : Chan) → ReplaysOn s i a es b → (more : List Message) × (b.took f c ≡ a.took f c ++ more)
 takes_later s i [] a b f c r = ([], ap (λ (x : Course). x.took f c) (sym r) ∙ sym (append-nil (a.took f c)))
 takes_later s i (e ∷ es) a b f c r =
     let rest = takes_later s i es r.0 b f c r.2 in

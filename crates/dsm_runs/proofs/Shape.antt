@@ -15,7 +15,7 @@ use Rattle.tw_base.specs.Lists.{Each}
 use Rattle.dsm_runs.specs.Messages.{chan_eq}
 use Rattle.dsm_runs.specs.Events.{Acts}
 use Rattle.dsm_runs.specs.Worlds.{taken, takes_from, World, Wires, Runs, start}
-use Rattle.dsm_runs.specs.Replays.{Course, GoesOn, begin}
+use Rattle.dsm_runs.specs.Replays.{Course, ReplaysOn, begin}
 use Rattle.dsm_runs.specs.Merges.{joined, IsMerge, IsJoined, Agrees, AllReplay, is_of}
 use Rattle.dsm_runs.proofs.Lists.{and_left}
 use Rattle.dsm_runs.proofs.Turns.{AgreesAll, nat_eq_other}
@@ -42,7 +42,7 @@ taken_from_none e front f t c n far h = go (takes_from e.act f c) refl (nat_eq t
     go false q false = refl
 
 -- nothing is taken from a number that is no node
-pub took_from_none : (s : Setup) (i : ℕ) (es : List Entry) (a b : Course) (f : ℕ) (c : Chan) → s.shape.nodes ≤ f → GoesOn s i a es b → b.took f c ≡ a.took f c
+pub took_from_none : (s : Setup) (i : ℕ) (es : List Entry) (a b : Course) (f : ℕ) (c : Chan) → s.shape.nodes ≤ f → ReplaysOn s i a es b → b.took f c ≡ a.took f c
 took_from_none s i [] a b f c far r = ap (λ (x : Course). x.took f c) (sym r)
 took_from_none s i (e ∷ es) a b f c far r =
     took_from_none s i es r.0 b f c far r.2 ∙ r.1.took f c
@@ -71,7 +71,7 @@ rest_out s ends left f t c h k = grind (arith, nat_tests)
 rest_none : (s : Setup) (ends : ℕ → Course) (left : Wires) (f t : ℕ) (c : Chan) → s.shape.nodes ≤ f → rest_of s ends left f t c ≡ []
 rest_none s ends left f t c h = grind (arith, nat_tests)
 
-all_replay : (s : Setup) (logs : ℕ → List Entry) (journal : List Entry) (ends : ℕ → Course) → AllReplay s logs ends → IsMerge s.shape.nodes logs journal → (i : ℕ) → GoesOn s i (begin s i) (filter (is_of i) journal) (padded s ends i)
+all_replay : (s : Setup) (logs : ℕ → List Entry) (journal : List Entry) (ends : ℕ → Course) → AllReplay s logs ends → IsMerge s.shape.nodes logs journal → (i : ℕ) → ReplaysOn s i (begin s i) (filter (is_of i) journal) (padded s ends i)
 all_replay s logs journal ends replays merge i = elim (cases_lt i s.shape.nodes) [
   | inl h ↦ rw (merge.parts i h, in_shape s ends i h) (replays i h)
   | inr h ↦ rw (no_entries i h journal merge.within, beyond s ends i h) refl

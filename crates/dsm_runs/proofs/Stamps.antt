@@ -9,7 +9,7 @@ use Rattle.dsm_runs.specs.Setups.{Setup}
 use Rattle.tw_base.specs.Lists.{Each}
 use Rattle.dsm_runs.specs.Messages.{chan_eq, on_wire, numbered}
 use Rattle.dsm_runs.specs.Events.{latest}
-use Rattle.dsm_runs.specs.Replays.{Course, Goes, GoesOn, Replays, begin}
+use Rattle.dsm_runs.specs.Replays.{Course, ReplaysOne, ReplaysOn, Replays, begin}
 use Rattle.dsm_runs.specs.Laws.{Some_of, IsLog, IsOn, IsNumbered}
 use Rattle.dsm_runs.proofs.Lists.{Each-append, Each-implied, Each-filter, Each-numbered, and_left, and_right, chan_eq-true, numbered-append, numbered-numbered}
 use Rattle.dsm_runs.proofs.Sends.{IsSent, step_sent}
@@ -18,13 +18,13 @@ pub latest_more : (clock : ℕ) (front : Option Message) → clock ≤ latest cl
 latest_more clock None = omega arith
 latest_more clock (Some m) = omega arith
 
-pub after_clock : (s : Setup) (i : ℕ) (es : List Entry) (a b : Course) → GoesOn s i a es b → Each (λ e. a.local.clock < e.stamp) es
+pub after_clock : (s : Setup) (i : ℕ) (es : List Entry) (a b : Course) → ReplaysOn s i a es b → Each (λ e. a.local.clock < e.stamp) es
 after_clock s i [] a b r = tt
 after_clock s i (e ∷ es) a b r =
     let now : a.local.clock < e.stamp = omega (arith, r.1.local.stamp, latest_more a.local.clock r.1.front) in
     (now, Each-implied (λ x. r.0.local.clock < x.stamp) (λ x. a.local.clock < x.stamp) es (λ x h. omega (arith, h, now, r.1.local.clock)) (after_clock s i es r.0 b r.2))
 
-pub is_log : (s : Setup) (i : ℕ) (es : List Entry) (a b : Course) → GoesOn s i a es b → IsLog i es
+pub is_log : (s : Setup) (i : ℕ) (es : List Entry) (a b : Course) → ReplaysOn s i a es b → IsLog i es
 is_log s i [] a b r = record { rising = tt; nodes = tt }
 is_log s i (e ∷ es) a b r =
     let rest = is_log s i es r.0 b r.2 in
@@ -70,7 +70,7 @@ on_here i t c log e m h k = record {
   stamped = some_last (λ x. x.stamp ≡ m.stamp) log e (sym k.at);
 }
 
-sound_step : (s : Setup) (i : ℕ) (log : List Entry) (e : Entry) (a b : Course) → IsSound i log a → Goes s i a e b → IsSound i (snoc log e) b
+sound_step : (s : Setup) (i : ℕ) (log : List Entry) (e : Entry) (a b : Course) → IsSound i log a → ReplaysOne s i a e b → IsSound i (snoc log e) b
 sound_step s i log e a b h r = record {
   numbers = λ t c.
       let put : List Message = filter (on_wire i t c) r.sends in
@@ -90,7 +90,7 @@ sound_step s i log e a b h r = record {
       (Each-numbered (IsOn i t c (snoc log e)) (λ m k x. record { sender = x.sender; receiver = x.receiver; chan = x.chan; stamped = x.stamped }) (length (a.sent t c)) put now));
 }
 
-sound_on : (s : Setup) (i : ℕ) (es log : List Entry) (a b : Course) → IsSound i log a → GoesOn s i a es b → IsSound i (log ++ es) b
+sound_on : (s : Setup) (i : ℕ) (es log : List Entry) (a b : Course) → IsSound i log a → ReplaysOn s i a es b → IsSound i (log ++ es) b
 sound_on s i [] log a b h r = subst (λ (x : Course). IsSound i (log ++ []) x) r (rw append-nil h)
 sound_on s i (e ∷ es) log a b h r = subst (λ (l : List Entry). IsSound i l b) (append_assoc log (e ∷ []) es) (sound_on s i es (snoc log e) r.0 b (sound_step s i log e a r.0 h r.1) r.2)
 

@@ -38,8 +38,8 @@ woken_decides (mode.Trapped why) = (λ e. absurd (cc), λ h. absurd (cc))
 
 pub may_instruct_decides : (s : Setup) (l : Local) → Decides (may_instruct s l) (MayInstruct s l)
 may_instruct_decides s l = Decides-like (may_instruct s l)
-    (λ h. record { sound = h.0; ready = h.1.0; instructions = h.1.1.0; sent = h.1.1.1.0; clock = h.1.1.1.1 })
-    (λ m. (m.sound, (m.ready, (m.instructions, (m.sent, m.clock)))))
+    (λ h. record { unfailed = h.0; ready = h.1.0; instructions = h.1.1.0; sent = h.1.1.1.0; clock = h.1.1.1.1 })
+    (λ m. (m.unfailed, (m.ready, (m.instructions, (m.sent, m.clock)))))
     (Decides-and _ _ (none_decides l.failed) (Decides-and _ _ (ready_decides l.mode) (Decides-and _ _ (Decides-ltb l.instructions s.shape.budget)
     (Decides-and _ _ (Decides-ltb l.sent (handler_budget_of s.shape)) (Decides-ltb l.clock last_stamp)))))
 
@@ -48,8 +48,8 @@ held_decides s l = Decides-like (is_held s l) (λ h. record { woken = h.0; may =
 
 pub may_handle_decides : (s : Setup) (l : Local) → Decides (may_handle s l) (MayHandle s l)
 may_handle_decides s l = Decides-like (may_handle s l)
-    (λ h. record { sound = h.0; free = h.1.0; handled = h.1.1.0; sent = h.1.1.1.0; clock = h.1.1.1.1 })
-    (λ m. (m.sound, (m.free, (m.handled, (m.sent, m.clock)))))
+    (λ h. record { unfailed = h.0; free = h.1.0; handled = h.1.1.0; sent = h.1.1.1.0; clock = h.1.1.1.1 })
+    (λ m. (m.unfailed, (m.free, (m.handled, (m.sent, m.clock)))))
     (Decides-and _ _ (none_decides l.failed) (Decides-and _ _ (Decides-not _ (held_decides s l)) (Decides-and _ _ (Decides-ltb l.handled (handler_budget_of s.shape))
     (Decides-and _ _ (Decides-ltb l.sent (handler_budget_of s.shape)) (Decides-ltb l.clock last_stamp)))))
 

@@ -12,7 +12,7 @@ use Rattle.tw_base.specs.Lists.{Each}
 use Rattle.dsm_runs.specs.Messages.{on_wire, numbered, posted}
 use Rattle.dsm_runs.specs.Events.{LocalStep, latest}
 use Rattle.dsm_runs.specs.Worlds.{taken, takes_from, Wires}
-use Rattle.dsm_runs.specs.Replays.{Course, Goes}
+use Rattle.dsm_runs.specs.Replays.{Course, ReplaysOne}
 use Rattle.dsm_runs.proofs.Lists.{nat_eq_refl}
 use Rattle.dsm_runs.proofs.Sends.{IsSent, step_sent, From}
 
@@ -56,7 +56,7 @@ pub record Turn (s : Setup) (e : Entry) (a b : ℕ → Course) : Type 0 where
   pub sent : (f t : ℕ) (c : Chan) → (b f).sent t c ≡ (a f).sent t c ++ posted (length ((a f).sent t c)) f t c sends
   pub away : (f t : ℕ) (c : Chan) → f ≢ e.node → filter (on_wire f t c) sends ≡ []
 
-pub turn : (s : Setup) (e : Entry) (a : ℕ → Course) (mid : Course) → Goes s e.node (a e.node) e mid → Turn s e a (moved a e.node mid)
+pub turn : (s : Setup) (e : Entry) (a : ℕ → Course) (mid : Course) → ReplaysOne s e.node (a e.node) e mid → Turn s e a (moved a e.node mid)
 turn s e a mid r = record {
   front = r.front;
   sends = r.sends;

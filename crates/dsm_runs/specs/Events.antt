@@ -56,10 +56,12 @@ failure end.TooDeep = Some end.TooDeep
 
 -- a block as a handler left it
 abbrev pub after_of : ℕ → Ended → After
-after_of block ended = record { block = block; state = (out-StateVal ended.here.state).state; tag = ended.here.tag; end = ended.end }
+after_of block ended =
+    record { block = block; state = (out-StateVal ended.here.state).state; tag = ended.here.tag; end = ended.end }
 
 -- Node i, which is in l, handles m in an event with this stamp.
-pub record Handles (s : Setup) (i stamp : ℕ) (m : Message) (l l2 : Local) (sends : List Message) (after : Option After) : Type 0 where
+pub record Handles (s : Setup) (i stamp : ℕ) (m : Message) (l l2 : Local) (sends : List Message) (after : Option After)
+    : Type 0 where
   pub ended : Ended
   pub does : Does s.protocol (l.blocks m.block) m ended
   pub here : l2.blocks m.block ≡ ended.here
@@ -79,7 +81,8 @@ pub record Instructs (s : Setup) (l : Local) (front : Option Message) (l2 : Loca
   pub handled : l2.handled ≡ l.handled
 
 -- an instruction that completes: `needs` is what it needed, and the processor and the mode come to be these
-pub record Completes (s : Setup) (i : ℕ) (l : Local) (front : Option Message) (l2 : Local) (entry : Entry) (sends : List Message) (needs : Next) (cpu_then : Cpu) (mode_then : Mode) : Type 0 where
+pub record Completes (s : Setup) (i : ℕ) (l : Local) (front : Option Message) (l2 : Local) (entry : Entry)
+    (sends : List Message) (needs : Next) (cpu_then : Cpu) (mode_then : Mode) : Type 0 where
   pub instructs : Instructs s l front l2
   pub needed : asked s i l.cpu ≡ needs
   pub cpu : l2.cpu ≡ cpu_then
@@ -130,7 +133,8 @@ added_by next.Step = 0
 
 -- the next instruction is an access of block b that this tag refuses; a fetch and add is a store
 abbrev pub IsRefused : Setup → Next → Bool → ℕ → Tag → Type 0
-IsRefused s (next.Access stores address value) store b tag = (store ≡ stores) × (b ≡ block_of s address) × (permits tag stores ≡ false)
+IsRefused s (next.Access stores address value) store b tag =
+    (store ≡ stores) × (b ≡ block_of s address) × (permits tag stores ≡ false)
 IsRefused s (next.Faa address added) store b tag = (store ≡ true) × (b ≡ block_of s address) × (permits tag true ≡ false)
 IsRefused s (next.Trap why) store b tag = ⊥
 IsRefused s next.Halt store b tag = ⊥
@@ -138,7 +142,8 @@ IsRefused s (next.Print value) store b tag = ⊥
 IsRefused s next.Step store b tag = ⊥
 
 -- a refused access: the node is blocked, and handles the fault in the same event
-pub record Faults (s : Setup) (i : ℕ) (l : Local) (front : Option Message) (l2 : Local) (entry : Entry) (sends : List Message) (store : Bool) (b : ℕ) : Type 0 where
+pub record Faults (s : Setup) (i : ℕ) (l : Local) (front : Option Message) (l2 : Local) (entry : Entry) (sends : List Message)
+    (store : Bool) (b : ℕ) : Type 0 where
   pub instructs : Instructs s l front l2
   pub refused : IsRefused s (asked s i l.cpu) store b (l.blocks b).tag
   pub handles : Handles s i entry.stamp (fault store b i) (record l { mode = mode.Blocked b }) l2 sends entry.after
@@ -149,7 +154,8 @@ pub record CountsHandler (s : Setup) (l l2 : Local) : Type 0 where
   pub instructions : l2.instructions ≡ l.instructions
   pub handled : l2.handled ≡ l.handled + 1
 
-pub record Redelivers (s : Setup) (i : ℕ) (l : Local) (front : Option Message) (l2 : Local) (entry : Entry) (sends : List Message) (kind : Kind) (block from : ℕ) : Type 0 where
+pub record Redelivers (s : Setup) (i : ℕ) (l : Local) (front : Option Message) (l2 : Local) (entry : Entry)
+    (sends : List Message) (kind : Kind) (block from : ℕ) : Type 0 where
   pub counts : CountsHandler s l l2
   pub no_front : front ≡ None
   pub message : Message
@@ -161,7 +167,8 @@ pub record Redelivers (s : Setup) (i : ℕ) (l : Local) (front : Option Message)
   pub of_sender : message.from ≡ from
   pub handles : Handles s i entry.stamp message (record l { deferred = earlier ++ later }) l2 sends entry.after
 
-pub record Delivers (s : Setup) (i : ℕ) (l : Local) (front : Option Message) (l2 : Local) (entry : Entry) (sends : List Message) (kind : Kind) (block from number : ℕ) : Type 0 where
+pub record Delivers (s : Setup) (i : ℕ) (l : Local) (front : Option Message) (l2 : Local) (entry : Entry)
+    (sends : List Message) (kind : Kind) (block from number : ℕ) : Type 0 where
   pub counts : CountsHandler s l l2
   pub none_eligible : Each IsStale l.deferred
   pub from_node : from < s.shape.nodes
@@ -174,17 +181,27 @@ pub record Delivers (s : Setup) (i : ℕ) (l : Local) (front : Option Message) (
   pub handles : Handles s i entry.stamp message l l2 sends entry.after
 
 abbrev pub Acts : Setup → ℕ → Local → Option Message → Local → Entry → List Message → Act → Type 0
-Acts s i l front l2 entry sends (act.Load address value) = Completes s i l front l2 entry sends (next.Access false address 0) (finished s i l.cpu value) mode.Running × Loads s l l2 address value
-Acts s i l front l2 entry sends (act.Store address value) = Completes s i l front l2 entry sends (next.Access true address value) (finished s i l.cpu 0) mode.Running × Stores s l l2 address value
+Acts s i l front l2 entry sends (act.Load address value) =
+    Completes s i l front l2 entry sends (next.Access false address 0) (finished s i l.cpu value) mode.Running
+    × Loads s l l2 address value
+Acts s i l front l2 entry sends (act.Store address value) =
+    Completes s i l front l2 entry sends (next.Access true address value) (finished s i l.cpu 0) mode.Running
+    × Stores s l l2 address value
 Acts s i l front l2 entry sends (act.Faa address value sum) =
-    Completes s i l front l2 entry sends (next.Faa address (added_by (asked s i l.cpu))) (finished s i l.cpu value) mode.Running × Adds s l l2 address value (added_by (asked s i l.cpu)) sum
-Acts s i l front l2 entry sends (act.Print value) = Completes s i l front l2 entry sends (next.Print value) (finished s i l.cpu 0) mode.Running × SameBlocks l l2
+    Completes s i l front l2 entry sends (next.Faa address (added_by (asked s i l.cpu))) (finished s i l.cpu value) mode.Running
+    × Adds s l l2 address value (added_by (asked s i l.cpu)) sum
+Acts s i l front l2 entry sends (act.Print value) =
+    Completes s i l front l2 entry sends (next.Print value) (finished s i l.cpu 0) mode.Running
+    × SameBlocks l l2
 Acts s i l front l2 entry sends act.Halt = Completes s i l front l2 entry sends next.Halt l.cpu mode.Halted × SameBlocks l l2
-Acts s i l front l2 entry sends (act.Trapped why) = Completes s i l front l2 entry sends (next.Trap why) l.cpu (mode.Trapped why) × SameBlocks l l2
-Acts s i l front l2 entry sends act.Step = Completes s i l front l2 entry sends next.Step (finished s i l.cpu 0) mode.Running × SameBlocks l l2
+Acts s i l front l2 entry sends (act.Trapped why) =
+    Completes s i l front l2 entry sends (next.Trap why) l.cpu (mode.Trapped why) × SameBlocks l l2
+Acts s i l front l2 entry sends act.Step =
+    Completes s i l front l2 entry sends next.Step (finished s i l.cpu 0) mode.Running × SameBlocks l l2
 Acts s i l front l2 entry sends (act.Fault store block) = Faults s i l front l2 entry sends store block
 Acts s i l front l2 entry sends (act.Redelivered kind block from) = Redelivers s i l front l2 entry sends kind block from
-Acts s i l front l2 entry sends (act.Delivered kind block from chan number) = Delivers s i l front l2 entry sends kind block from number
+Acts s i l front l2 entry sends (act.Delivered kind block from chan number) =
+    Delivers s i l front l2 entry sends kind block from number
 
 -- the later of the node's clock and the stamp of the message that it takes
 abbrev pub latest : ℕ → Option Message → ℕ
@@ -193,7 +210,8 @@ latest clock (Some m) = max clock m.stamp
 
 -- Node i makes one event: it is in l before and in l2 after, `front` is the message that it takes from a wire, the log
 -- gets `entry`, and `sends` are the messages sent, with the numbers still to come.
-pub record LocalStep (s : Setup) (i : ℕ) (l : Local) (front : Option Message) (l2 : Local) (entry : Entry) (sends : List Message) : Type 0 where
+pub record LocalStep (s : Setup) (i : ℕ) (l : Local) (front : Option Message) (l2 : Local) (entry : Entry)
+    (sends : List Message) : Type 0 where
   pub at_node : i < s.shape.nodes
   pub node : entry.node ≡ i
   pub stamp : entry.stamp ≡ latest l.clock front + 1

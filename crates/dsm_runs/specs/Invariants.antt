@@ -1,8 +1,10 @@
 -- What every state of a run has: blocks that fit, messages of the protocol, and nodes that stay as they failed.
-use Rattle.std.specs.Prelude.{◌≡◌, ℕ, ◌<◌, Bool, true, false, length, List, Some}
-use Rattle.tw_base.specs.Lists.{Each}
+use Rattle.std.specs.Prelude.{◌≡◌, ℕ, ◌+◌, ◌<◌, ◌≤◌, Bool, true, false, length, List, Option, Some}
+use Rattle.tw_base.specs.Lists.{Each, sum_below}
+use Rattle.tw_base.specs.Shape.{handler_budget_of}
 use Rattle.tw_base.specs.declared.entry.End.{End}
 use Rattle.tw_base.specs.declared.entry.Entry.{Entry}
+use Rattle.tw_base.specs.declared.entry.Event.{Event}
 use Rattle.tw_base.specs.declared.entry.Event.TheVariants as event
 use Rattle.tw_base.specs.declared.message.Chan.{Chan}
 use Rattle.tw_base.specs.declared.message.Kind.{Kind}
@@ -11,8 +13,11 @@ use Rattle.tw_base.specs.declared.message.Message.{Message}
 use Rattle.teapot_meaning.specs.Fits.{Fits, IsMessageOf}
 use Rattle.teapot_meaning.specs.declared.state.Here.{Here}
 use Rattle.dsm_runs.specs.Setups.{IsSetup, Setup, home_of}
-use Rattle.dsm_runs.specs.Locals.{Local}
-use Rattle.dsm_runs.specs.Worlds.{IsEnabled, Runs, World, start}
+use Rattle.dsm_runs.specs.Locals.{Local, first}
+use Rattle.dsm_runs.specs.Messages.{posted}
+use Rattle.dsm_runs.specs.Events.{LocalStep}
+use Rattle.dsm_runs.specs.Worlds.{IsEnabled, Runs, Step, World, event_of, start}
+use Rattle.dsm_runs.specs.Replays.{Course, Replays}
 
 abbrev pub is_fault : Kind → Bool
 is_fault kind.RdFault = true
@@ -33,6 +38,12 @@ pub record IsOnTheWay (s : Setup) (f t : ℕ) (m : Message) : Type 0 where
   pub named : is_fault m.kind ≡ false
   pub from : m.from ≡ f
   pub to : m.to ≡ t
+  pub block : m.block < s.shape.blocks
+
+-- a message that is sent, to whichever node
+pub record IsPosted (s : Setup) (m : Message) : Type 0 where
+  pub is_message : IsMessageOf s.protocol s.shape.words m
+  pub named : is_fault m.kind ≡ false
   pub block : m.block < s.shape.blocks
 
 -- a message that node i deferred: one that came to it, or a fault of its own
@@ -62,6 +73,11 @@ pub record IsOver (s : Setup) (g : World) (i : ℕ) : Type 0 where
 abbrev pub RunsKeepTheirState : Type 0
 RunsKeepTheirState = (s : Setup) (journal : List Entry) (g : World) → IsSetup s → Runs s (start s) journal g → IsRunState s g
 
+-- An event keeps it.
+abbrev pub StepsKeepTheirState : Type 0
+StepsKeepTheirState =
+    (s : Setup) (g : World) (e : Entry) (h : World) → IsSetup s → IsRunState s g → Step s g e h → IsRunState s h
+
 -- A node that failed makes no event.
 abbrev pub FailedNodesAreOver : Type 0
 FailedNodesAreOver = (s : Setup) (g : World) (i : ℕ) (why : End) → (g.locals i).failed ≡ Some why → IsOver s g i
@@ -71,3 +87,63 @@ abbrev pub FailedNodesStay : Type 0
 FailedNodesStay =
     (s : Setup) (more : List Entry) (g h : World) (i : ℕ) (why : End) →
     (g.locals i).failed ≡ Some why → Runs s g more h → h.locals i ≡ g.locals i
+
+-- ---- one node alone
+
+-- A node starts so.
+abbrev pub NodesStartSound : Type 0
+NodesStartSound = (s : Setup) (i : ℕ) → IsSetup s → IsNodeOf s i (first s i)
+
+-- what an event leaves at its node, and what it puts on wires
+pub record KeepsNode (s : Setup) (i : ℕ) (l2 : Local) (sends : List Message) : Type 0 where
+  pub node : IsNodeOf s i l2
+  pub sent : Each (IsPosted s) sends
+  pub on : (k t : ℕ) (c : Chan) → Each (IsOnTheWay s i t) (posted k i t c sends)
+
+-- An event of a node keeps it so, where the message that it takes is one that came to it.
+abbrev pub EventsKeepNodes : Type 0
+EventsKeepNodes =
+    (s : Setup) (i : ℕ) (l : Local) (front : Option Message) (l2 : Local) (e : Entry) (sends : List Message) →
+    IsSetup s → IsNodeOf s i l → ((m : Message) → front ≡ Some m → IsDeferredAt s i m) →
+    LocalStep s i l front l2 e sends → KeepsNode s i l2 sends
+
+-- the node is as in every state, and each message that it sent is on its way
+pub record IsCourseOf (s : Setup) (i : ℕ) (a : Course) : Type 0 where
+  pub node : IsNodeOf s i a.local
+  pub sent : (t : ℕ) (c : Chan) → Each (IsOnTheWay s i t) (a.sent t c)
+
+-- A node whose log is replayed is so, where each message that it took is one that came to it.
+abbrev pub LogsKeepNodes : Type 0
+LogsKeepNodes =
+    (s : Setup) (i : ℕ) (log : List Entry) (a : Course) →
+    IsSetup s → Replays s i log a → ((f : ℕ) (c : Chan) → Each (IsDeferredAt s i) (a.took f c)) → IsCourseOf s i a
+
+-- ---- events that are enabled
+
+-- the step of an event
+pub record Makes (s : Setup) (g : World) (e : Event) : Type 0 where
+  pub entry : Entry
+  pub after : World
+  pub tells : event_of entry ≡ e
+  pub step : Step s g entry after
+
+-- In such a state an event that is enabled has a step.
+abbrev pub EnabledEventsStep : Type 0
+EnabledEventsStep = (s : Setup) (g : World) (e : Event) → IsSetup s → IsRunState s g → IsEnabled s g e → Makes s g e
+
+-- ---- how far a run may get
+
+-- the instructions and the messages that a node's budgets counted
+abbrev pub done : World → ℕ → ℕ
+done g i = (g.locals i).instructions + (g.locals i).handled
+
+abbrev pub UpTo : ℕ → Message → Type 0
+UpTo k m = m.stamp ≤ k
+
+-- after k events: the nodes' counts make k, each is within its budget, and no clock and no stamp on a wire is past k
+pub record Bounded (s : Setup) (k : ℕ) (g : World) : Type 0 where
+  pub total : sum_below s.shape.nodes (done g) ≡ k
+  pub instructions : (i : ℕ) → (g.locals i).instructions ≤ s.shape.budget
+  pub handled : (i : ℕ) → (g.locals i).handled ≤ handler_budget_of s.shape
+  pub clocks : (i : ℕ) → (g.locals i).clock ≤ k
+  pub wires : (f t : ℕ) (c : Chan) → Each (UpTo k) (g.wires f t c)

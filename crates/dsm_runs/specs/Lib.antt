@@ -4,6 +4,7 @@ pub mod Locals
 pub mod Messages
 pub mod Events
 pub mod Worlds
+pub mod Flat
 pub mod Replays
 pub mod Merges
 pub mod Laws

@@ -25,7 +25,17 @@ pub record Local : Type 0 where
 
 -- a node at the start
 abbrev pub first : Setup → ℕ → Local
-first s i = record { mode = mode.Running; failed = None; clock = 0; cpu = first_cpu; blocks = first_here s i; deferred = []; instructions = 0; handled = 0; sent = 0 }
+first s i = record {
+  mode = mode.Running;
+  failed = None;
+  clock = 0;
+  cpu = first_cpu;
+  blocks = first_here s i;
+  deferred = [];
+  instructions = 0;
+  handled = 0;
+  sent = 0;
+}
 
 -- no clock and no stamp of a message that is still to be taken reaches this
 abbrev pub last_stamp : ℕ
@@ -40,7 +50,7 @@ IsReady (mode.Trapped why) = ⊥
 
 -- the instruction event is enabled
 pub record MayInstruct (s : Setup) (l : Local) : Type 0 where
-  pub sound : l.failed ≡ None
+  pub unfailed : l.failed ≡ None
   pub ready : IsReady l.mode
   pub instructions : l.instructions < s.shape.budget
   pub sent : l.sent < handler_budget_of s.shape
@@ -53,7 +63,7 @@ pub record IsHeld (s : Setup) (l : Local) : Type 0 where
 
 -- what a redelivery and a delivery both need
 pub record MayHandle (s : Setup) (l : Local) : Type 0 where
-  pub sound : l.failed ≡ None
+  pub unfailed : l.failed ≡ None
   pub free : ¬ IsHeld s l
   pub handled : l.handled < handler_budget_of s.shape
   pub sent : l.sent < handler_budget_of s.shape

@@ -48,7 +48,8 @@ AllReplay s logs ends = (i : ℕ) → i < s.shape.nodes → Replays s i (logs i)
 
 -- on each wire what was taken, and then `left`, is what was sent
 abbrev pub Agrees : ℕ → (ℕ → Course) → Wires → Type 0
-Agrees nodes ends left = (f t : ℕ) (c : Chan) → f < nodes → t < nodes → (ends f).sent t c ≡ (ends t).took f c ++ left f t c
+Agrees nodes ends left =
+    (f t : ℕ) (c : Chan) → f < nodes → t < nodes → (ends f).sent t c ≡ (ends t).took f c ++ left f t c
 
 -- g is made of these nodes, and of what is left on the wires
 pub record IsJoined (nodes : ℕ) (ends : ℕ → Course) (left : Wires) (g : World) : Type 0 where

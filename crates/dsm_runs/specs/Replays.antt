@@ -19,17 +19,17 @@ abbrev pub begin : Setup → ℕ → Course
 begin s i = record { local = first s i; took = λ f c. []; sent = λ t c. [] }
 
 -- one entry of the log of node i
-pub record Goes (s : Setup) (i : ℕ) (a : Course) (e : Entry) (b : Course) : Type 0 where
+pub record ReplaysOne (s : Setup) (i : ℕ) (a : Course) (e : Entry) (b : Course) : Type 0 where
   pub front : Option Message
   pub sends : List Message
   pub local : LocalStep s i a.local front b.local e sends
   pub took : (f : ℕ) (c : Chan) → b.took f c ≡ a.took f c ++ taken e front f i c
   pub sent : (t : ℕ) (c : Chan) → b.sent t c ≡ a.sent t c ++ posted (length (a.sent t c)) i t c sends
 
-abbrev pub GoesOn : Setup → ℕ → Course → List Entry → Course → Type 0
-GoesOn s i a [] b = a ≡ b
-GoesOn s i a (e ∷ es) b = (mid : Course) × Goes s i a e mid × GoesOn s i mid es b
+abbrev pub ReplaysOn : Setup → ℕ → Course → List Entry → Course → Type 0
+ReplaysOn s i a [] b = a ≡ b
+ReplaysOn s i a (e ∷ es) b = (mid : Course) × ReplaysOne s i a e mid × ReplaysOn s i mid es b
 
 -- From the start the log leads node i to this course.
 abbrev pub Replays : Setup → ℕ → List Entry → Course → Type 0
-Replays s i log b = GoesOn s i (begin s i) log b
+Replays s i log b = ReplaysOn s i (begin s i) log b

@@ -38,7 +38,9 @@ chosen stride t events = slice_get events ((t * stride) % length events)
 -- enabled.
 abbrev pub Settles : Setup → ℕ → ℕ → World → List Entry → World → Type 0
 Settles s stride t g [] h = (g ≡ h) × (enabled_events s g ≡ [])
-Settles s stride t g (e ∷ es) h = (chosen stride t (enabled_events s g) ≡ Some (event_of e)) × (mid : World) × Step s g e mid × Settles s stride (suc t) mid es h
+Settles s stride t g (e ∷ es) h =
+    (chosen stride t (enabled_events s g) ≡ Some (event_of e)) ×
+    (mid : World) × Step s g e mid × Settles s stride (suc t) mid es h
 
 -- one turn of the schedule, where t events were taken before: an event is made, or none is enabled
 abbrev pub Advances : Setup → ℕ → ℕ → World → Option Entry → World → Type 0

@@ -28,14 +28,16 @@ is_woken (mode.Trapped why) = false
 
 abbrev pub may_instruct : Setup → Local → Bool
 may_instruct s l =
-    not (is_some l.failed) && (is_ready l.mode && (nat_lt l.instructions s.shape.budget && (nat_lt l.sent (handler_budget_of s.shape) && nat_lt l.clock last_stamp)))
+    not (is_some l.failed) && (is_ready l.mode && (nat_lt l.instructions s.shape.budget
+    && (nat_lt l.sent (handler_budget_of s.shape) && nat_lt l.clock last_stamp)))
 
 abbrev pub is_held : Setup → Local → Bool
 is_held s l = is_woken l.mode && may_instruct s l
 
 abbrev pub may_handle : Setup → Local → Bool
 may_handle s l =
-    not (is_some l.failed) && (not (is_held s l) && (nat_lt l.handled (handler_budget_of s.shape) && (nat_lt l.sent (handler_budget_of s.shape) && nat_lt l.clock last_stamp)))
+    not (is_some l.failed) && (not (is_held s l) && (nat_lt l.handled (handler_budget_of s.shape)
+    && (nat_lt l.sent (handler_budget_of s.shape) && nat_lt l.clock last_stamp)))
 
 abbrev pub has_eligible : List Waiting → Bool
 has_eligible ws = list_any (λ w. w.eligible) ws
@@ -48,4 +50,5 @@ abbrev pub is_enabled : Setup → World → Event → Bool
 is_enabled s g (event.Instr i) = nat_lt i s.shape.nodes && may_instruct s (g.locals i)
 is_enabled s g (event.Redeliver i) = nat_lt i s.shape.nodes && (may_handle s (g.locals i) && has_eligible (g.locals i).deferred)
 is_enabled s g (event.Deliver i f c) =
-    nat_lt i s.shape.nodes && (nat_lt f s.shape.nodes && (may_handle s (g.locals i) && (not (has_eligible (g.locals i).deferred) && is_early (slice_get (g.wires f i c) 0))))
+    nat_lt i s.shape.nodes && (nat_lt f s.shape.nodes && (may_handle s (g.locals i)
+    && (not (has_eligible (g.locals i).deferred) && is_early (slice_get (g.wires f i c) 0))))

@@ -8,14 +8,20 @@ ghost use Rattle.dsm_runs.specs.Locals.{first};
 ghost use Rattle.dsm_runs.specs.Events.{word_here};
 ghost use Rattle.tw_base.specs.Lists.{Each};
 ghost use Rattle.dsm_runs.specs.Worlds.{event_of, IsEnabled, IsQuiet, Runs, Step, start, Wires, World};
-ghost use Rattle.dsm_runs.specs.Replays.{Course, Goes, Replays};
+ghost use Rattle.dsm_runs.specs.Replays.{Course, ReplaysOne, Replays};
 ghost use Rattle.dsm_runs.specs.Merges.{Agrees, AllReplay, IsJoined, IsMerge, joined, merged};
 ghost use Rattle.dsm_runs.specs.Laws.{IsLog, IsNumbered, IsOn, IsWire};
 ghost use Rattle.dsm_runs.specs.Schedules.{Settles};
-ghost use Rattle.dsm_runs.specs.Invariants.{FailedNodesAreOver, FailedNodesStay, RunsKeepTheirState};
+ghost use Rattle.dsm_runs.specs.Flat.{DueStepsAreFlat, IsBeside, flat_start};
+ghost use Rattle.dsm_runs.specs.Invariants.{Bounded, EnabledEventsStep, EventsKeepNodes, FailedNodesAreOver, FailedNodesStay, LogsKeepNodes, NodesStartSound, RunsKeepTheirState, StepsKeepTheirState};
 
-/// Where each node is what the replay of its log makes of it, and on each wire what was taken and then what is left is what was sent,
-/// the merge of the logs is a run from the start. It reaches these nodes, with what is left on the wires.
+/// Where each node is what the replay of its log makes of it, and on each wire what was taken and then what is left is what
+/// was sent, the merge of the logs is a run from the start. It reaches these nodes, with what is left on the wires.
+///
+/// Stamps are enough to merge by. A node's stamps rise, and the event that takes a message has a later stamp than the event
+/// that sent it; so whatever an event may depend on stands before it in the merge, and events that stand otherwise than they
+/// happened do not depend on each other (Leslie Lamport, Time, Clocks, and the Ordering of Events in a Distributed System,
+/// 1978). The number of the node puts equal stamps in some order, and any order does.
 pub fn merged_logs_are_a_run()
     ensures { (s : Setup) (logs : ℕ → List Entry) (journal : List Entry) (ends : ℕ → Course) (left : Wires) →
         AllReplay s logs ends → Agrees s.shape.nodes ends left → IsMerge s.shape.nodes logs journal →
@@ -24,12 +30,14 @@ pub fn merged_logs_are_a_run()
 
 /// Where no event is enabled on these nodes and what is left, the state that the merged logs reach is quiet.
 pub fn quiet_nodes_end_a_run()
-    ensures { (s : Setup) (ends : ℕ → Course) (left : Wires) (g : World) → IsJoined s.shape.nodes ends left g → IsQuiet s (joined ends left) → IsQuiet s g }
+    ensures { (s : Setup) (ends : ℕ → Course) (left : Wires) (g : World) →
+        IsJoined s.shape.nodes ends left g → IsQuiet s (joined ends left) → IsQuiet s g }
 {}
 
 /// A journal is a run to one state.
 pub fn run_has_one_end()
-    ensures { (s : Setup) (journal : List Entry) (g h : World) → Runs s (start s) journal g → Runs s (start s) journal h → g ≡ h }
+    ensures { (s : Setup) (journal : List Entry) (g h : World) →
+        Runs s (start s) journal g → Runs s (start s) journal h → g ≡ h }
 {}
 
 /// A log and what was taken determine the node and what it sent.
@@ -47,34 +55,39 @@ pub fn logs_are_sound()
         (t : ℕ) (c : Chan) → Each (IsOn i t c log) (a.sent t c) }
 {}
 
-/// A run has at most as many events as the budgets of its nodes allow, and no stamp passes their number.
+/// A run has at most as many events as the budgets of its nodes allow, and no stamp and no clock passes their number.
 pub fn runs_are_short()
     ensures events { (s : Setup) (journal : List Entry) (g : World) → Runs s (start s) journal g →
         length journal ≤ s.shape.nodes * (s.shape.budget + handler_budget_of s.shape) }
     ensures stamps { (s : Setup) (journal : List Entry) (g : World) → Runs s (start s) journal g →
         Each (λ e. e.stamp ≤ length journal) journal }
+    ensures state { (s : Setup) (journal : List Entry) (g : World) → Runs s (start s) journal g → Bounded s (length journal) g }
 {}
 
 /// A node's log goes on by the entry of each event that it makes.
 pub fn logs_go_on()
-    ensures { (s : Setup) (i : ℕ) (log : List Entry) (a b : Course) (e : Entry) → Replays s i log a → Goes s i a e b → Replays s i (log ++ e ∷ []) b }
+    ensures { (s : Setup) (i : ℕ) (log : List Entry) (a b : Course) (e : Entry) →
+        Replays s i log a → ReplaysOne s i a e b → Replays s i (log ++ e ∷ []) b }
 {}
 
 /// A run goes on from where it got.
 pub fn runs_go_on()
-    ensures { (s : Setup) (first second : List Entry) (g h : World) → Runs s (start s) first g → Runs s g second h → Runs s (start s) (first ++ second) h }
+    ensures { (s : Setup) (first second : List Entry) (g h : World) →
+        Runs s (start s) first g → Runs s g second h → Runs s (start s) (first ++ second) h }
 {}
 
 /// There is one merge of the logs of the nodes.
 pub fn logs_have_one_merge()
     ensures some { (n : ℕ) (logs : ℕ → List Entry) → ((i : ℕ) → i < n → IsLog i (logs i)) → IsMerge n logs (merged n logs) }
-    ensures one { (n : ℕ) (logs : ℕ → List Entry) (first second : List Entry) → IsMerge n logs first → IsMerge n logs second → first ≡ second }
+    ensures one { (n : ℕ) (logs : ℕ → List Entry) (first second : List Entry) →
+        IsMerge n logs first → IsMerge n logs second → first ≡ second }
 {}
 
 /// A step makes an enabled event, and an event in a state gives one entry and leads to one state.
 pub fn events_have_one_step()
     ensures enabled { (s : Setup) (g : World) (e : Entry) (h : World) → Step s g e h → IsEnabled s g (event_of e) }
-    ensures entry { (s : Setup) (g : World) (e f : Entry) (x y : World) → event_of e ≡ event_of f → Step s g e x → Step s g f y → e ≡ f }
+    ensures entry { (s : Setup) (g : World) (e f : Entry) (x y : World) →
+        event_of e ≡ event_of f → Step s g e x → Step s g f y → e ≡ f }
     ensures state { (s : Setup) (g : World) (e : Entry) (x y : World) → Step s g e x → Step s g e y → x ≡ y }
 {}
 
@@ -86,14 +99,24 @@ pub fn wires_are_sound()
 
 /// Each node's copy starts with the words that the flat machine starts with.
 pub fn nodes_start_with_the_flat_words()
-    ensures { (s : Setup) (i address : ℕ) → IsSetup s → address < size_of s → word_here s (first s i).blocks address ≡ slice_index (first_words (size_of s) s.init) address }
+    ensures { (s : Setup) (i address : ℕ) →
+        IsSetup s → address < size_of s → word_here s (first s i).blocks address ≡ slice_index (first_words (size_of s) s.init) address }
 {}
 
 /// A schedule is one run, and ends in a quiet state.
 pub fn schedules_are_one_run()
-    ensures run { (s : Setup) (stride t : ℕ) (g : World) (es : List Entry) (h : World) → Settles s stride t g es h → Runs s g es h }
-    ensures quiet { (s : Setup) (stride t : ℕ) (g : World) (es : List Entry) (h : World) → Settles s stride t g es h → IsQuiet s h }
-    ensures one { (s : Setup) (stride t : ℕ) (g : World) (es fs : List Entry) (h k : World) → Settles s stride t g es h → Settles s stride t g fs k → (es ≡ fs) × (h ≡ k) }
+    ensures run { (s : Setup) (stride t : ℕ) (g : World) (es : List Entry) (h : World) →
+        Settles s stride t g es h → Runs s g es h }
+    ensures quiet { (s : Setup) (stride t : ℕ) (g : World) (es : List Entry) (h : World) →
+        Settles s stride t g es h → IsQuiet s h }
+    ensures one { (s : Setup) (stride t : ℕ) (g : World) (es fs : List Entry) (h k : World) →
+        Settles s stride t g es h → Settles s stride t g fs k → (es ≡ fs) × (h ≡ k) }
+{}
+
+/// A run starts beside the flat machine. Where what a step read is the flat machine's word, that does the same.
+pub fn due_steps_are_flat()
+    ensures start { (s : Setup) → IsBeside s (start s) (flat_start s) }
+    ensures step { DueStepsAreFlat }
 {}
 
 /// In every state of a run the blocks of each node fit the protocol, have their words and know where they are, and each
@@ -101,6 +124,20 @@ pub fn schedules_are_one_run()
 /// and stays as it is however the run goes on.
 pub fn what_every_run_keeps()
     ensures states { RunsKeepTheirState }
+    ensures steps { StepsKeepTheirState }
     ensures over { FailedNodesAreOver }
     ensures stay { FailedNodesStay }
+{}
+
+/// A node starts with blocks that fit, and each event of it keeps them so, where the message that it takes is one of the
+/// protocol that came to it: what it sends is on its way. So it is after all of its log.
+pub fn nodes_stay_sound()
+    ensures start { NodesStartSound }
+    ensures events { EventsKeepNodes }
+    ensures logs { LogsKeepNodes }
+{}
+
+/// In a state of a run an event that is enabled has a step.
+pub fn enabled_events_step()
+    ensures { EnabledEventsStep }
 {}
