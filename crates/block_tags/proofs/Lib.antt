@@ -1,3 +1,4 @@
 mod Bits
 mod Tags
+pub mod Slices
 mod Words

@@ -24,8 +24,12 @@ tag_of m block = slice_index_or m.tags block Invalid
 abbrev pub word_at : Copies → ℕ → ℕ
 word_at m address = slice_index m.words address
 
+-- the words of a block of this width, in the words of all blocks
+abbrev pub block_slice : ℕ → List ℕ → ℕ → List ℕ
+block_slice width words block = take width (drop (block * width) words)
+
 abbrev pub block_words : Copies → ℕ → List ℕ
-block_words m block = take m.shape.words (drop (block * m.shape.words) m.words)
+block_words m block = block_slice m.shape.words m.words block
 
 -- whether a tag allows a store (true) or a load (false)
 abbrev pub permits : Tag → Bool → Bool

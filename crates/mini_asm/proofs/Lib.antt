@@ -5,3 +5,4 @@ pub mod Reading
 pub mod Spelled
 pub mod Starts
 pub mod Steps
+pub mod Versions

@@ -1,5 +1,6 @@
 -- What a program is: instructions whose registers and places are in range.
-use Rattle.std.specs.Prelude.{ℕ, ◌<◌, ◌≤◌, List, length, All}
+use Rattle.std.specs.Prelude.{ℕ, ◌<◌, ◌≤◌, Bool, true, false, List, length, All}
+use Rattle.std.specs.List.{list_any}
 use Rattle.mini_asm.specs.declared.instr.Instr.{Instr}
 use Rattle.mini_asm.specs.declared.instr.Instr.TheVariants.{Li, Mov, Add, Sub, And, Or, Xor, Ld, St, Beq, Bne, Blt, Jmp, Print, Halt, Faa}
 
@@ -48,3 +49,27 @@ IsInstr end i = HasRegisters i × GoesWithin end i
 pub record IsProgram (instrs : List Instr) : Type 0 where
   pub short : length instrs ≤ 4096
   pub each : All (IsInstr (length instrs)) instrs
+
+-- ---- fetch and add, which the first version has not
+
+abbrev pub is_faa : Instr → Bool
+is_faa (Li d n) = false
+is_faa (Mov d a) = false
+is_faa (Add d a b) = false
+is_faa (Sub d a b) = false
+is_faa (And d a b) = false
+is_faa (Or d a b) = false
+is_faa (Xor d a b) = false
+is_faa (Ld d a n) = false
+is_faa (St s a n) = false
+is_faa (Beq a b place) = false
+is_faa (Bne a b place) = false
+is_faa (Blt a b place) = false
+is_faa (Jmp place) = false
+is_faa (Print a) = false
+is_faa Halt = false
+is_faa (Faa d s a n) = true
+
+-- whether some instruction of a program is a fetch-and-add
+abbrev pub has_faa : List Instr → Bool
+has_faa program = list_any is_faa program

@@ -1,4 +1,4 @@
-ghost use Rattle.std.specs.Prelude.{◌≡◌, ◌<◌, ◌≤◌, ◌^◌, length, IfSome};
+ghost use Rattle.std.specs.Prelude.{◌≡◌, ◌+◌, ◌<◌, ◌≤◌, ◌^◌, length, IfSome};
 ghost use Rattle.mini_asm.specs.Machine.{access, fetch_and_add, written, with_written, place_after};
 ghost use Rattle.mini_asm.specs.Programs.{HasRegisters};
 
@@ -62,31 +62,18 @@ fn fetch_and_add(address: u64, added: u64, size: u64) -> Next
     }
 }
 
-impl Cpu {
-    ghost use Rattle.mini_asm.specs.Machine.{next_of, finish_of};
-    ghost use Rattle.mini_asm.specs.Run.{first_cpu};
+impl Instr {
+    ghost use Rattle.std.specs.Prelude.{Some};
+    ghost use Rattle.mini_asm.specs.Machine.{asks};
 
-    /// All registers 0, at the first instruction.
-    pub fn new() -> Self
-        ensures { result ≡ first_cpu }
+    /// What it asks for, where a processor has these registers and the memory `size` words. An address is modulo 2^64
+    /// before it is compared with the size.
+    pub fn asks(self, regs: &[u64; 16], size: u64) -> Next
+        requires registers { HasRegisters self }
+        requires size { size ≤ 2 ^ 32 }
+        ensures { result ≡ asks (Some self) regs.now size }
     {
-        Cpu {
-            regs: [0; 16],
-            place: 0,
-        }
-    }
-
-    /// What the instruction at the place asks for, in a memory of `size` words. An address is modulo 2^64 before it
-    /// is compared with the size.
-    pub fn next(&self, program: &Program, size: u64) -> Next
-        requires { size ≤ 2 ^ 32 }
-        ensures { result ≡ next_of program.now self.now size }
-    {
-        let Some(instr) = program.get(self.place) else {
-            return Next::Trap(Trap::FellOff);
-        };
-        let regs = &self.regs;
-        match instr {
+        match self {
             Instr::Ld(_, a, n) => access(false, regs[a as usize].wrapping_add(n), 0, size),
             Instr::St(s, a, n) => {
                 let address = regs[a as usize].wrapping_add(n);
@@ -101,6 +88,45 @@ impl Cpu {
             _ => Next::Step,
         }
     }
+}
+
+impl Cpu {
+    ghost use Rattle.std.specs.Prelude.{Some};
+    ghost use Rattle.mini_asm.specs.Machine.{next_of, completed, finish_of};
+    ghost use Rattle.mini_asm.specs.Run.{first_cpu};
+
+    /// All registers 0, at the first instruction.
+    pub fn new() -> Self
+        ensures { result ≡ first_cpu }
+    {
+        Cpu {
+            regs: [0; 16],
+            place: 0,
+        }
+    }
+
+    /// What the instruction at the place asks for, in a memory of `size` words.
+    pub fn next(&self, program: &Program, size: u64) -> Next
+        requires { size ≤ 2 ^ 32 }
+        ensures { result ≡ next_of program.now self.now size }
+    {
+        match program.get(self.place) {
+            Some(instr) => instr.asks(&self.regs, size),
+            None => Next::Trap(Trap::FellOff),
+        }
+    }
+
+    /// Completes an instruction. `loaded` is the word that it loads, if it loads one.
+    pub fn complete(&mut self, instr: Instr, loaded: u64)
+        requires registers { HasRegisters instr }
+        requires room { self.old.place + 1 < 2 ^ 32 }
+        ensures { self.new ≡ completed (Some instr) self.old loaded }
+    {
+        let place = place_after(&self.regs, instr, self.place);
+        let written = written(&self.regs, instr, loaded);
+        write(&mut self.regs, written);
+        self.place = place;
+    }
 
     /// Completes the instruction at the place. `loaded` is the word that it loads, if it loads one.
     pub fn finish(&mut self, program: &Program, loaded: u64)
@@ -109,10 +135,7 @@ impl Cpu {
         ensures within { self.new.place ≤ length program.now }
     {
         if let Some(instr) = program.get(self.place) {
-            let place = place_after(&self.regs, instr, self.place);
-            let written = written(&self.regs, instr, loaded);
-            write(&mut self.regs, written);
-            self.place = place;
+            self.complete(instr, loaded);
         }
     }
 }
@@ -150,7 +173,7 @@ fn write(regs: &mut [u64; 16], written: Option<(u8, u64)>)
 
 fn place_after(regs: &[u64; 16], instr: Instr, at: u32) -> u32
     requires registers { HasRegisters instr }
-    requires room { at < 4096 }
+    requires room { at + 1 < 2 ^ 32 }
     ensures { result ≡ place_after instr regs.now at }
 {
     match instr {

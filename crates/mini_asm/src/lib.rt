@@ -20,7 +20,9 @@ mod tests;
 pub use cpu::{Cpu, Next};
 pub use flat::Flat;
 pub use instr::Instr;
-pub use laws::{program_is_what_its_lines_spell, words_at_the_start};
+pub use laws::{
+    program_is_what_its_lines_spell, programs_are_of_their_version, words_at_the_start,
+};
 pub use parse::{ProgramError, parse_program};
 pub use processor::{Core, FlatMode};
 pub use program::Program;

@@ -14,16 +14,21 @@ use tw_lex::Line;
 const MAX_INSTRS: usize = 4096;
 
 /// The first fault in the lines of a program, with the line's number in the text.
-#[derive(Clone, Copy, Debug, PartialEq, Eq)]
+#[derive(Clone, Copy, Debug, PartialEq, Eq, thiserror::Error)]
 pub enum ProgramError {
     /// Neither a label nor an instruction of the version.
+    #[error("line {line} is no line of the assembly")]
     BadLine { line: u32 },
     /// The 4,097th instruction.
+    #[error("the program has more than 4096 instructions, from line {line} on")]
     TooLong { line: u32 },
     /// A label that stands on an earlier line.
+    #[error("the label of line {line} stands on an earlier line")]
     LabelTwice { line: u32 },
     /// A jump to a label that stands nowhere.
+    #[error("no line has the label to which line {line} jumps")]
     NoLabel { line: u32 },
+    #[error("out of memory")]
     Memory,
 }
 
