@@ -1,3 +1,5 @@
 pub mod Bares
 pub mod Firsts
 pub mod Iso
+pub mod Sharing
+pub mod Spelled

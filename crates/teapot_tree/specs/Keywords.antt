@@ -1,5 +1,5 @@
 -- The words that are no names.
-use Rattle.std.specs.Prelude.{ℕ, ◌&&◌, ◌==◌, codes, if◌then◌else◌, List, Option, Some, None}
+use Rattle.std.specs.Prelude.{ℕ, ◌&&◌, ◌==◌, codes, if◌then◌else◌, List, [], ◌∷◌, Option, Some, None}
 use Rattle.std.specs.Str.{bytes_eq}
 use Rattle.teapot_tree.specs.declared.keyword.Keyword.{Keyword}
 use Rattle.teapot_tree.specs.declared.keyword.Keyword.TheVariants as k
@@ -52,53 +52,102 @@ spelling_of k.Data = codes "data"
 spelling_of k.RdFault = codes "RD_FAULT"
 spelling_of k.WrFault = codes "WR_FAULT"
 
+-- the words that open the lines of declarations
+abbrev pub heading_words : List (List ℕ × Keyword)
+heading_words =
+    (codes "Protocol", k.Protocol) ∷
+    (codes "Message", k.Message) ∷
+    (codes "Info", k.Info) ∷
+    (codes "HomeStart", k.HomeStart) ∷
+    (codes "CacheStart", k.CacheStart) ∷
+    (codes "State", k.State) ∷
+    (codes "On", k.On) ∷
+    (codes "Default", k.Default) ∷
+    (codes "Local", k.Local) ∷
+    (codes "Begin", k.Begin) ∷
+    (codes "End", k.End) ∷
+    []
+
+-- those that open the lines of statements, but for that of a loop
+abbrev pub statement_words : List (List ℕ × Keyword)
+statement_words =
+    (codes "If", k.If) ∷
+    (codes "Else", k.Else) ∷
+    (codes "Send", k.Send) ∷
+    (codes "SendAll", k.SendAll) ∷
+    (codes "SetTag", k.SetTag) ∷
+    (codes "SetState", k.SetState) ∷
+    (codes "Suspend", k.Suspend) ∷
+    (codes "Resume", k.Resume) ∷
+    (codes "Error", k.Error) ∷
+    (codes "Install", k.Install) ∷
+    (codes "Enqueue", k.Enqueue) ∷
+    (codes "WakeUp", k.WakeUp) ∷
+    []
+
+-- types and tags
+abbrev pub type_words : List (List ℕ × Keyword)
+type_words =
+    (codes "Int", k.Int) ∷
+    (codes "Bool", k.Bool) ∷
+    (codes "Node", k.Node) ∷
+    (codes "Set", k.Set) ∷
+    (codes "Invalid", k.Invalid) ∷
+    (codes "ReadOnly", k.ReadOnly) ∷
+    (codes "ReadWrite", k.ReadWrite) ∷
+    []
+
+-- those of expressions
+abbrev pub value_words : List (List ℕ × Keyword)
+value_words =
+    (codes "True", k.True) ∷
+    (codes "False", k.False) ∷
+    (codes "Empty", k.Empty) ∷
+    (codes "src", k.Src) ∷
+    (codes "self", k.SelfNode) ∷
+    (codes "home", k.Home) ∷
+    (codes "One", k.One) ∷
+    (codes "Not", k.Not) ∷
+    (codes "Count", k.Count) ∷
+    (codes "Has", k.Has) ∷
+    (codes "With", k.With) ∷
+    (codes "Without", k.Without) ∷
+    []
+
+-- the data of a message, and the faults
+abbrev pub other_words : List (List ℕ × Keyword)
+other_words =
+    (codes "data", k.Data) ∷
+    (codes "RD_FAULT", k.RdFault) ∷
+    (codes "WR_FAULT", k.WrFault) ∷
+    []
+
+-- the keyword of the first entry with this spelling, or the other one where none has it
+abbrev pub spelled : List (List ℕ × Keyword) → List ℕ → Option Keyword → Option Keyword
+spelled [] word other = other
+spelled (w ∷ ws) word other = if bytes_eq word w.0 then Some w.1 else spelled ws word other
+
+unfoldable pub heading : List ℕ → Option Keyword
+heading word = spelled heading_words word None
+
+unfoldable pub statement : List ℕ → Option Keyword
+statement word = spelled statement_words word None
+
+unfoldable pub type_or_tag : List ℕ → Option Keyword
+type_or_tag word = spelled type_words word None
+
+unfoldable pub value : List ℕ → Option Keyword
+value word = spelled value_words word None
+
+unfoldable pub data_or_fault : List ℕ → Option Keyword
+data_or_fault word = spelled other_words word None
+
 -- `ForEach` is a keyword in profile 2 alone
 unfoldable pub keyword_of : ℕ → List ℕ → Option Keyword
 keyword_of profile word =
-    if bytes_eq word (codes "Protocol") then Some k.Protocol else
-    if bytes_eq word (codes "Message") then Some k.Message else
-    if bytes_eq word (codes "Info") then Some k.Info else
-    if bytes_eq word (codes "HomeStart") then Some k.HomeStart else
-    if bytes_eq word (codes "CacheStart") then Some k.CacheStart else
-    if bytes_eq word (codes "State") then Some k.State else
-    if bytes_eq word (codes "On") then Some k.On else
-    if bytes_eq word (codes "Default") then Some k.Default else
-    if bytes_eq word (codes "Local") then Some k.Local else
-    if bytes_eq word (codes "Begin") then Some k.Begin else
-    if bytes_eq word (codes "End") then Some k.End else
-    if bytes_eq word (codes "If") then Some k.If else
-    if bytes_eq word (codes "Else") then Some k.Else else
-    if bytes_eq word (codes "Send") then Some k.Send else
-    if bytes_eq word (codes "SendAll") then Some k.SendAll else
-    if bytes_eq word (codes "SetTag") then Some k.SetTag else
-    if bytes_eq word (codes "SetState") then Some k.SetState else
-    if bytes_eq word (codes "Suspend") then Some k.Suspend else
-    if bytes_eq word (codes "Resume") then Some k.Resume else
-    if bytes_eq word (codes "Error") then Some k.Error else
-    if bytes_eq word (codes "Install") then Some k.Install else
-    if bytes_eq word (codes "Enqueue") then Some k.Enqueue else
-    if bytes_eq word (codes "WakeUp") then Some k.WakeUp else
+    spelled heading_words word (
+    spelled statement_words word (
     if (profile == 2) && bytes_eq word (codes "ForEach") then Some k.ForEach else
-    if bytes_eq word (codes "Int") then Some k.Int else
-    if bytes_eq word (codes "Bool") then Some k.Bool else
-    if bytes_eq word (codes "Node") then Some k.Node else
-    if bytes_eq word (codes "Set") then Some k.Set else
-    if bytes_eq word (codes "Invalid") then Some k.Invalid else
-    if bytes_eq word (codes "ReadOnly") then Some k.ReadOnly else
-    if bytes_eq word (codes "ReadWrite") then Some k.ReadWrite else
-    if bytes_eq word (codes "True") then Some k.True else
-    if bytes_eq word (codes "False") then Some k.False else
-    if bytes_eq word (codes "Empty") then Some k.Empty else
-    if bytes_eq word (codes "src") then Some k.Src else
-    if bytes_eq word (codes "self") then Some k.SelfNode else
-    if bytes_eq word (codes "home") then Some k.Home else
-    if bytes_eq word (codes "One") then Some k.One else
-    if bytes_eq word (codes "Not") then Some k.Not else
-    if bytes_eq word (codes "Count") then Some k.Count else
-    if bytes_eq word (codes "Has") then Some k.Has else
-    if bytes_eq word (codes "With") then Some k.With else
-    if bytes_eq word (codes "Without") then Some k.Without else
-    if bytes_eq word (codes "data") then Some k.Data else
-    if bytes_eq word (codes "RD_FAULT") then Some k.RdFault else
-    if bytes_eq word (codes "WR_FAULT") then Some k.WrFault else
-    None
+    spelled type_words word (
+    spelled value_words word (
+    spelled other_words word None))))

@@ -1,5 +1,7 @@
-ghost use Rattle.std.specs.Prelude.{◌≡◌};
-ghost use Rattle.teapot_tree.specs.Keywords.{keyword_of};
+ghost use Rattle.std.specs.Prelude.{◌≡◌, ◌&&◌, ◌==◌, codes, if◌then◌else◌, map, Some, None};
+ghost use Rattle.std.specs.Str.{bytes_eq};
+ghost use Rattle.teapot_tree.specs.declared.keyword.Keyword.TheVariants.{ForEach};
+ghost use Rattle.teapot_tree.specs.Keywords.{data_or_fault, heading, keyword_of, spelled, statement, type_or_tag, value};
 
 /// A reserved word.
 #[derive(Clone, Copy, Debug, PartialEq, Eq)]
@@ -52,104 +54,127 @@ pub enum Keyword {
     WrFault,
 }
 
+fn spelled(table: &[(&[u8], Keyword)], word: &[u8]) -> Option<Keyword>
+    ensures { result ≡ spelled (map (λ e. (e.0.now, e.1)) table.now) word.now None }
+{
+    for entry in table {
+        if word == entry.0 {
+            return Some(entry.1);
+        }
+    }
+    None
+}
+
+/// The keyword, where it opens the line of a declaration.
+#[tactic(auto, unfolding(crate::specs::Keywords::heading))]
+fn heading(word: &[u8]) -> Option<Keyword>
+    ensures { result ≡ heading word.now }
+{
+    let table = [
+        (b"Protocol".as_slice(), Keyword::Protocol),
+        (b"Message".as_slice(), Keyword::Message),
+        (b"Info".as_slice(), Keyword::Info),
+        (b"HomeStart".as_slice(), Keyword::HomeStart),
+        (b"CacheStart".as_slice(), Keyword::CacheStart),
+        (b"State".as_slice(), Keyword::State),
+        (b"On".as_slice(), Keyword::On),
+        (b"Default".as_slice(), Keyword::Default),
+        (b"Local".as_slice(), Keyword::Local),
+        (b"Begin".as_slice(), Keyword::Begin),
+        (b"End".as_slice(), Keyword::End),
+    ];
+    spelled(&table, word)
+}
+
+/// The keyword, where it opens the line of a statement other than a loop.
+#[tactic(auto, unfolding(crate::specs::Keywords::statement))]
+fn statement(word: &[u8]) -> Option<Keyword>
+    ensures { result ≡ statement word.now }
+{
+    let table = [
+        (b"If".as_slice(), Keyword::If),
+        (b"Else".as_slice(), Keyword::Else),
+        (b"Send".as_slice(), Keyword::Send),
+        (b"SendAll".as_slice(), Keyword::SendAll),
+        (b"SetTag".as_slice(), Keyword::SetTag),
+        (b"SetState".as_slice(), Keyword::SetState),
+        (b"Suspend".as_slice(), Keyword::Suspend),
+        (b"Resume".as_slice(), Keyword::Resume),
+        (b"Error".as_slice(), Keyword::Error),
+        (b"Install".as_slice(), Keyword::Install),
+        (b"Enqueue".as_slice(), Keyword::Enqueue),
+        (b"WakeUp".as_slice(), Keyword::WakeUp),
+    ];
+    spelled(&table, word)
+}
+
+/// The keyword of a type or a tag.
+#[tactic(auto, unfolding(crate::specs::Keywords::type_or_tag))]
+fn type_or_tag(word: &[u8]) -> Option<Keyword>
+    ensures { result ≡ type_or_tag word.now }
+{
+    let table = [
+        (b"Int".as_slice(), Keyword::Int),
+        (b"Bool".as_slice(), Keyword::Bool),
+        (b"Node".as_slice(), Keyword::Node),
+        (b"Set".as_slice(), Keyword::Set),
+        (b"Invalid".as_slice(), Keyword::Invalid),
+        (b"ReadOnly".as_slice(), Keyword::ReadOnly),
+        (b"ReadWrite".as_slice(), Keyword::ReadWrite),
+    ];
+    spelled(&table, word)
+}
+
+/// The keyword, where it stands in expressions.
+#[tactic(auto, unfolding(crate::specs::Keywords::value))]
+fn value(word: &[u8]) -> Option<Keyword>
+    ensures { result ≡ value word.now }
+{
+    let table = [
+        (b"True".as_slice(), Keyword::True),
+        (b"False".as_slice(), Keyword::False),
+        (b"Empty".as_slice(), Keyword::Empty),
+        (b"src".as_slice(), Keyword::Src),
+        (b"self".as_slice(), Keyword::SelfNode),
+        (b"home".as_slice(), Keyword::Home),
+        (b"One".as_slice(), Keyword::One),
+        (b"Not".as_slice(), Keyword::Not),
+        (b"Count".as_slice(), Keyword::Count),
+        (b"Has".as_slice(), Keyword::Has),
+        (b"With".as_slice(), Keyword::With),
+        (b"Without".as_slice(), Keyword::Without),
+    ];
+    spelled(&table, word)
+}
+
+/// The keyword of the data of a message or of a fault.
+#[tactic(auto, unfolding(crate::specs::Keywords::data_or_fault))]
+fn data_or_fault(word: &[u8]) -> Option<Keyword>
+    ensures { result ≡ data_or_fault word.now }
+{
+    let table = [
+        (b"data".as_slice(), Keyword::Data),
+        (b"RD_FAULT".as_slice(), Keyword::RdFault),
+        (b"WR_FAULT".as_slice(), Keyword::WrFault),
+    ];
+    spelled(&table, word)
+}
+
+fn for_each(profile: u8, word: &[u8]) -> Option<Keyword>
+    ensures { result ≡ (if (profile == 2) && bytes_eq word.now (codes "ForEach") then Some ForEach else None) }
+{
+    (profile == 2 && word == b"ForEach".as_slice()).then_some(Keyword::ForEach)
+}
+
 /// The keyword that the bytes spell, where they spell one of this profile. `ForEach` is one in profile 2 alone.
-#[tactic(auto, unfolding(crate::specs::Keywords::keyword_of))]
+#[tactic(auto, using(crate::proofs::Spelled::keyword_is))]
 pub fn keyword_of(profile: u8, word: &[u8]) -> Option<Keyword>
     ensures { result ≡ keyword_of profile word.now }
 {
-    if word == b"Protocol".as_slice() {
-        Some(Keyword::Protocol)
-    } else if word == b"Message".as_slice() {
-        Some(Keyword::Message)
-    } else if word == b"Info".as_slice() {
-        Some(Keyword::Info)
-    } else if word == b"HomeStart".as_slice() {
-        Some(Keyword::HomeStart)
-    } else if word == b"CacheStart".as_slice() {
-        Some(Keyword::CacheStart)
-    } else if word == b"State".as_slice() {
-        Some(Keyword::State)
-    } else if word == b"On".as_slice() {
-        Some(Keyword::On)
-    } else if word == b"Default".as_slice() {
-        Some(Keyword::Default)
-    } else if word == b"Local".as_slice() {
-        Some(Keyword::Local)
-    } else if word == b"Begin".as_slice() {
-        Some(Keyword::Begin)
-    } else if word == b"End".as_slice() {
-        Some(Keyword::End)
-    } else if word == b"If".as_slice() {
-        Some(Keyword::If)
-    } else if word == b"Else".as_slice() {
-        Some(Keyword::Else)
-    } else if word == b"Send".as_slice() {
-        Some(Keyword::Send)
-    } else if word == b"SendAll".as_slice() {
-        Some(Keyword::SendAll)
-    } else if word == b"SetTag".as_slice() {
-        Some(Keyword::SetTag)
-    } else if word == b"SetState".as_slice() {
-        Some(Keyword::SetState)
-    } else if word == b"Suspend".as_slice() {
-        Some(Keyword::Suspend)
-    } else if word == b"Resume".as_slice() {
-        Some(Keyword::Resume)
-    } else if word == b"Error".as_slice() {
-        Some(Keyword::Error)
-    } else if word == b"Install".as_slice() {
-        Some(Keyword::Install)
-    } else if word == b"Enqueue".as_slice() {
-        Some(Keyword::Enqueue)
-    } else if word == b"WakeUp".as_slice() {
-        Some(Keyword::WakeUp)
-    } else if profile == 2 && word == b"ForEach".as_slice() {
-        Some(Keyword::ForEach)
-    } else if word == b"Int".as_slice() {
-        Some(Keyword::Int)
-    } else if word == b"Bool".as_slice() {
-        Some(Keyword::Bool)
-    } else if word == b"Node".as_slice() {
-        Some(Keyword::Node)
-    } else if word == b"Set".as_slice() {
-        Some(Keyword::Set)
-    } else if word == b"Invalid".as_slice() {
-        Some(Keyword::Invalid)
-    } else if word == b"ReadOnly".as_slice() {
-        Some(Keyword::ReadOnly)
-    } else if word == b"ReadWrite".as_slice() {
-        Some(Keyword::ReadWrite)
-    } else if word == b"True".as_slice() {
-        Some(Keyword::True)
-    } else if word == b"False".as_slice() {
-        Some(Keyword::False)
-    } else if word == b"Empty".as_slice() {
-        Some(Keyword::Empty)
-    } else if word == b"src".as_slice() {
-        Some(Keyword::Src)
-    } else if word == b"self".as_slice() {
-        Some(Keyword::SelfNode)
-    } else if word == b"home".as_slice() {
-        Some(Keyword::Home)
-    } else if word == b"One".as_slice() {
-        Some(Keyword::One)
-    } else if word == b"Not".as_slice() {
-        Some(Keyword::Not)
-    } else if word == b"Count".as_slice() {
-        Some(Keyword::Count)
-    } else if word == b"Has".as_slice() {
-        Some(Keyword::Has)
-    } else if word == b"With".as_slice() {
-        Some(Keyword::With)
-    } else if word == b"Without".as_slice() {
-        Some(Keyword::Without)
-    } else if word == b"data".as_slice() {
-        Some(Keyword::Data)
-    } else if word == b"RD_FAULT".as_slice() {
-        Some(Keyword::RdFault)
-    } else if word == b"WR_FAULT".as_slice() {
-        Some(Keyword::WrFault)
-    } else {
-        None
-    }
+    heading(word)
+        .or(statement(word))
+        .or(for_each(profile, word))
+        .or(type_or_tag(word))
+        .or(value(word))
+        .or(data_or_fault(word))
 }
