@@ -1,84 +1,107 @@
 -- What the words of the command line ask for.
-use Rattle.std.specs.Prelude.{ℕ, ◌+◌, ◌^◌, ◌==◌, ◌||◌, ◌&&◌, not, if◌then◌else◌, codes, nat_lt, position, take, drop, filter, count_by, Bool, false, List, [], ◌∷◌, ◌++◌, Option, Some, None}
-use Rattle.std.specs.List.{list_all, list_any}
-use Rattle.std.specs.Str.{bytes_eq}
+use Rattle.std.specs.Prelude.{ℕ, ◌^◌, ◌==◌, ◌||◌, if◌then◌else◌, codes, nat_lt, Bool, true, false, List, [], ◌∷◌, Option, Some, None}
 use Rattle.std.specs.Option.{option_map}
+use Rattle.std.specs.Str.{bytes_eq}
 use Rattle.tw_base.specs.Answers.{◌>>?◌}
-use Rattle.tw_lex.specs.Lexemes.{number_of}
+use Rattle.tw_lex.specs.Lexemes.{number_of as digits_of}
 use Rattle.tempest_words.specs.declared.request.Asked.{Asked}
 use Rattle.tempest_words.specs.declared.request.Command.{Command}
 use Rattle.tempest_words.specs.declared.request.Command.TheVariants as commands
+use Rattle.tempest_words.specs.declared.words.Kind.{Kind}
+use Rattle.tempest_words.specs.declared.words.Kind.TheVariants as kinds
+use Rattle.tempest_words.specs.declared.words.Named.{Named}
+use Rattle.tempest_words.specs.declared.words.Named.TheVariants as names
+use Rattle.tempest_words.specs.declared.words.Read.{Read}
 
-abbrev pub is_option : List ℕ → Bool
-is_option [] = false
-is_option (b ∷ bs) = b == 45
+-- ---- one word
 
-abbrev pub is_dashes : List ℕ → Bool
-is_dashes w = bytes_eq w (codes "--")
+abbrev pub begins_with_a_dash : List ℕ → Bool
+begins_with_a_dash [] = false
+begins_with_a_dash (b ∷ bs) = b == 45
 
-abbrev pub before_dashes : Option ℕ → List (List ℕ) → List (List ℕ)
-before_dashes None words = words
-before_dashes (Some i) words = take i words
+-- what a word is where it stands before the first `--`
+abbrev pub kind_of : List ℕ → Kind
+kind_of w =
+    if bytes_eq w (codes "--") then kinds.Dashes else
+    (if bytes_eq w (codes "--journal") then kinds.Journal else
+    (if bytes_eq w (codes "--meaning") then kinds.Meaning else
+    (if begins_with_a_dash w then kinds.Unknown else kinds.Positional)))
 
-abbrev pub after_dashes : Option ℕ → List (List ℕ) → List (List ℕ)
-after_dashes None words = []
-after_dashes (Some i) words = drop (i + 1) words
+abbrev pub command_named : List ℕ → Option Named
+command_named w =
+    if bytes_eq w (codes "check") then Some names.Check else
+    (if bytes_eq w (codes "code") then Some names.Code else
+    (if bytes_eq w (codes "show") then Some names.Show else
+    (if bytes_eq w (codes "serial") then Some names.Serial else None)))
 
 -- one or more digits, of a value below 2^32
-abbrev pub stride_of : List ℕ → Option ℕ
-stride_of [] = None
-stride_of (b ∷ bs) = number_of (b ∷ bs) >>? λ n. if nat_lt n (2 ^ 32) then Some n else None
+abbrev pub number_of : List ℕ → Option ℕ
+number_of [] = None
+number_of (b ∷ bs) = digits_of (b ∷ bs) >>? λ n. if nat_lt n (2 ^ 32) then Some n else None
 
-abbrev pub two_words : List ℕ → List ℕ → Option Command
-two_words w n = if bytes_eq w (codes "serial") then option_map (λ k. commands.Serial k) (stride_of n) else None
+-- ---- the words from left to right
 
-abbrev pub one_word : List ℕ → Option Command
-one_word w =
-    if bytes_eq w (codes "check") then Some commands.Check else
-    (if bytes_eq w (codes "code") then Some commands.Code else
-    (if bytes_eq w (codes "show") then Some commands.Show else None))
+abbrev pub nothing : Read
+nothing = record { command = None; number = None; journal = false; meaning = false; ended = false }
 
-abbrev pub command_of : List (List ℕ) → Option Command
-command_of [] = None
-command_of (w ∷ []) = one_word w
-command_of (w ∷ n ∷ []) = two_words w n
-command_of (w ∷ n ∷ m ∷ ws) = None
+-- each option stands at most once
+abbrev pub with_journal : Read → Option Read
+with_journal r = if r.journal then None else Some (record r { journal = true })
 
-abbrev pub is_journal : List ℕ → Bool
-is_journal w = bytes_eq w (codes "--journal")
+abbrev pub with_meaning : Read → Option Read
+with_meaning r = if r.meaning then None else Some (record r { meaning = true })
 
-abbrev pub is_meaning : List ℕ → Bool
-is_meaning w = bytes_eq w (codes "--meaning")
+abbrev pub with_command : List ℕ → Read → Option Read
+with_command w r = option_map (λ name. record r { command = Some name }) (command_named w)
 
-abbrev pub is_known : List ℕ → Bool
-is_known w = is_journal w || is_meaning w
+abbrev pub with_number : List ℕ → Read → Option Read
+with_number w r = option_map (λ n. record r { number = Some n }) (number_of w)
 
--- each option is known, and stands at most once
-abbrev pub options_fit : List (List ℕ) → Bool
-options_fit before =
-    list_all (λ w. not (is_option w) || is_known w) before &&
-    (nat_lt (count_by is_journal before) 2 && nat_lt (count_by is_meaning before) 2)
+abbrev pub place_word : Option Named → Option ℕ → List ℕ → Read → Option Read
+place_word None number w r = with_command w r
+place_word (Some name) None w r = with_number w r
+place_word (Some name) (Some n) w r = None
+
+-- with a word that is no option: first the command, then its number, and no third
+abbrev pub with_word : List ℕ → Read → Option Read
+with_word w r = place_word r.command r.number w r
+
+abbrev pub with_kind : Kind → List ℕ → Read → Option Read
+with_kind kinds.Dashes w r = Some (record r { ended = true })
+with_kind kinds.Journal w r = with_journal r
+with_kind kinds.Meaning w r = with_meaning r
+with_kind kinds.Unknown w r = None
+with_kind kinds.Positional w r = with_word w r
+
+-- with the next word: behind `--` no word is an option
+abbrev pub next : List ℕ → Read → Option Read
+next w r = if r.ended then with_word w r else with_kind (kind_of w) w r
+
+abbrev pub words_read : Read → List (List ℕ) → Option Read
+words_read r [] = Some r
+words_read r (w ∷ ws) = next w r >>? λ q. words_read q ws
+
+-- ---- what was read
+
+abbrev pub as_command : Option Named → Option ℕ → Option Command
+as_command (Some names.Check) None = Some commands.Check
+as_command (Some names.Code) None = Some commands.Code
+as_command (Some names.Show) None = Some commands.Show
+as_command (Some names.Serial) (Some stride) = Some (commands.Serial stride)
+as_command _ _ = None
+
+-- the command with its number, where it takes one, and without one, where it takes none
+abbrev pub command_of : Read → Option Command
+command_of r = as_command r.command r.number
 
 -- a run takes both options, and the other commands take none
 abbrev pub with_options : Bool → Bool → Command → Option Asked
-with_options journal meaning commands.Check =
-    if journal || meaning then None else Some (record { command = commands.Check; journal = false; meaning = false })
-with_options journal meaning commands.Code =
-    if journal || meaning then None else Some (record { command = commands.Code; journal = false; meaning = false })
-with_options journal meaning commands.Show =
-    if journal || meaning then None else Some (record { command = commands.Show; journal = false; meaning = false })
-with_options journal meaning (commands.Serial stride) =
-    Some (record { command = commands.Serial stride; journal = journal; meaning = meaning })
+with_options journal meaning (commands.Serial stride) = Some (record { command = commands.Serial stride; journal = journal; meaning = meaning })
+with_options journal meaning command = if journal || meaning then None else Some (record { command = command; journal = false; meaning = false })
 
--- A word before the first `--` that begins with `-` is an option. All other words are the command and its number.
-abbrev pub asked_split : List (List ℕ) → List (List ℕ) → Option Asked
-asked_split before after =
-    if options_fit before
-    then command_of (filter (λ w. not (is_option w)) before ++ after) >>? with_options (list_any is_journal before) (list_any is_meaning before)
-    else None
+abbrev pub asked_by : Read → Option Asked
+asked_by r = command_of r >>? with_options r.journal r.meaning
 
 -- what the words ask for, if they are a command
 unfoldable pub asked : List (List ℕ) → Option Asked
-asked words =
-    let dashes = position is_dashes words in
-    asked_split (before_dashes dashes words) (after_dashes dashes words)
+asked words = words_read nothing words >>? asked_by

@@ -29,6 +29,8 @@ serial --journal 0 --meaning => serial:0+journal+meaning
 serial 0 --journal --journal => nothing
 serial 0 --meaning --journal --meaning => nothing
 serial 0 --counts => nothing
+serial 0 --batch 5 => nothing
+serial 0 --batch=5 => nothing
 serial 0 -journal => nothing
 --journal => nothing
 -- serial 0 => serial:0

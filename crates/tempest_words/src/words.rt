@@ -1,147 +1,202 @@
-ghost use Rattle.std.specs.Prelude.{◌≡◌, ◌++◌, ◌||◌, not, map, position, filter, count_by};
-ghost use Rattle.std.specs.List.{list_all, list_any};
-ghost use Rattle.std.specs.Str.{bytes_eq};
+ghost use Rattle.std.specs.Prelude.{◌≡◌, map};
 ghost use Rattle.std.specs.String.{string_bytes};
-ghost use Rattle.tempest_words.specs.Words.{is_option, is_dashes, is_known, stride_of, one_word, two_words, command_of, options_fit, with_options, asked_split, asked};
+ghost use Rattle.tempest_words.specs.Words.{asked, asked_by, command_of, command_named, kind_of, next, nothing, number_of, with_command, with_journal, with_meaning, with_number, with_word, words_read};
 
 use crate::{Asked, Command};
-use tw_lex::number_of;
 
-const JOURNAL: &str = "--journal";
+/// What a word is where it stands before the first `--`.
+#[derive(Clone, Copy)]
+enum Kind {
+    Dashes,
+    Journal,
+    Meaning,
+    /// A word that begins with `-`, and is no option.
+    Unknown,
+    /// The command, or its number.
+    Positional,
+}
 
-const MEANING: &str = "--meaning";
+/// A command without its number.
+#[derive(Clone, Copy)]
+enum Named {
+    Check,
+    Code,
+    Show,
+    Serial,
+}
 
-fn stride_of(word: &[u8]) -> Option<u32>
-    ensures { result ≡ stride_of word.now }
+/// What was read of the words so far.
+#[derive(Clone, Copy)]
+struct Read {
+    command: Option<Named>,
+    number: Option<u32>,
+    journal: bool,
+    meaning: bool,
+    /// A `--` was met, so that no later word is an option.
+    ended: bool,
+}
+
+impl Read {
+    fn nothing() -> Read
+        ensures { result ≡ nothing }
+    {
+        Read {
+            command: None,
+            number: None,
+            journal: false,
+            meaning: false,
+            ended: false,
+        }
+    }
+
+    fn with_journal(self) -> Option<Read>
+        ensures { result ≡ with_journal self }
+    {
+        (!self.journal).then_some(Read {
+            journal: true,
+            ..self
+        })
+    }
+
+    fn with_meaning(self) -> Option<Read>
+        ensures { result ≡ with_meaning self }
+    {
+        (!self.meaning).then_some(Read {
+            meaning: true,
+            ..self
+        })
+    }
+
+    fn with_command(self, word: &str) -> Option<Read>
+        ensures { result ≡ with_command word.now self }
+    {
+        let command = Some(command_named(word)?);
+        Some(Read { command, ..self })
+    }
+
+    fn with_number(self, word: &str) -> Option<Read>
+        ensures { result ≡ with_number word.now self }
+    {
+        let number = Some(number_of(word.as_bytes())?);
+        Some(Read { number, ..self })
+    }
+
+    /// With a word that is no option: first the command, then its number, and no third.
+    fn with_word(self, word: &str) -> Option<Read>
+        ensures { result ≡ with_word word.now self }
+    {
+        match (self.command, self.number) {
+            (None, _) => self.with_command(word),
+            (Some(_), None) => self.with_number(word),
+            (Some(_), Some(_)) => None,
+        }
+    }
+
+    /// With the next word.
+    fn next(self, word: &str) -> Option<Read>
+        ensures { result ≡ next word.now self }
+    {
+        if self.ended {
+            return self.with_word(word);
+        }
+        match kind_of(word) {
+            Kind::Dashes => Some(Read {
+                ended: true,
+                ..self
+            }),
+            Kind::Journal => self.with_journal(),
+            Kind::Meaning => self.with_meaning(),
+            Kind::Unknown => None,
+            Kind::Positional => self.with_word(word),
+        }
+    }
+
+    /// The command with its number, where it takes one, and without one, where it takes none.
+    fn command(self) -> Option<Command>
+        ensures { result ≡ command_of self }
+    {
+        match (self.command, self.number) {
+            (Some(Named::Check), None) => Some(Command::Check),
+            (Some(Named::Code), None) => Some(Command::Code),
+            (Some(Named::Show), None) => Some(Command::Show),
+            (Some(Named::Serial), Some(stride)) => Some(Command::Serial(stride)),
+            _ => None,
+        }
+    }
+
+    /// What is asked for. A run takes both options, and the other commands take none.
+    fn asked(self) -> Option<Asked>
+        ensures { result ≡ asked_by self }
+    {
+        let (journal, meaning) = (self.journal, self.meaning);
+        match self.command()? {
+            Command::Check | Command::Code | Command::Show if journal || meaning => None,
+            command => Some(Asked {
+                command,
+                journal,
+                meaning,
+            }),
+        }
+    }
+}
+
+fn kind_of(word: &str) -> Kind
+    ensures { result ≡ kind_of word.now }
+{
+    if word == "--" {
+        Kind::Dashes
+    } else if word == "--journal" {
+        Kind::Journal
+    } else if word == "--meaning" {
+        Kind::Meaning
+    } else if word.as_bytes().first() == Some(&b'-') {
+        Kind::Unknown
+    } else {
+        Kind::Positional
+    }
+}
+
+fn command_named(word: &str) -> Option<Named>
+    ensures { result ≡ command_named word.now }
+{
+    if word == "check" {
+        Some(Named::Check)
+    } else if word == "code" {
+        Some(Named::Code)
+    } else if word == "show" {
+        Some(Named::Show)
+    } else if word == "serial" {
+        Some(Named::Serial)
+    } else {
+        None
+    }
+}
+
+/// One or more digits, of a value below 2^32.
+fn number_of(word: &[u8]) -> Option<u32>
+    ensures { result ≡ number_of word.now }
 {
     if word.is_empty() {
         return None;
     }
-    let number = number_of(word)?;
-    if number < 1 << 32 {
-        Some(number as u32)
-    } else {
-        None
+    u32::try_from(tw_lex::number_of(word)?).ok()
+}
+
+/// The words from left to right.
+fn words_read(words: &[String]) -> Option<Read>
+    ensures { result ≡ words_read nothing (map string_bytes words.now) }
+{
+    let mut read = Read::nothing();
+    for word in words {
+        read = read.next(word.as_str())?;
     }
-}
-
-fn one_word(command: &str) -> Option<Command>
-    ensures { result ≡ one_word command.now }
-{
-    if command == "check" {
-        Some(Command::Check)
-    } else if command == "code" {
-        Some(Command::Code)
-    } else if command == "show" {
-        Some(Command::Show)
-    } else {
-        None
-    }
-}
-
-fn two_words(command: &str, number: &str) -> Option<Command>
-    ensures { result ≡ two_words command.now number.now }
-{
-    if command == "serial" {
-        Some(Command::Serial(stride_of(number.as_bytes())?))
-    } else {
-        None
-    }
-}
-
-fn is_option(word: &str) -> bool
-    ensures { result ≡ is_option word.now }
-{
-    word.as_bytes().first() == Some(&b'-')
-}
-
-fn is_known(word: &str) -> bool
-    ensures { result ≡ is_known word.now }
-{
-    word == JOURNAL || word == MEANING
-}
-
-/// The command of the words that are no options.
-fn command_of(before: &[String], after: &[String]) -> Option<Command>
-    ensures { result ≡ command_of (map string_bytes (filter (λ word. not (is_option (string_bytes word))) before.now ++ after.now)) }
-{
-    let mut words = before
-        .iter()
-        .filter(|word| !is_option(word.as_str()))
-        .chain(after.iter());
-    let command = words.next()?;
-    let Some(number) = words.next() else {
-        return one_word(command.as_str());
-    };
-    match words.next() {
-        None => two_words(command.as_str(), number.as_str()),
-        Some(_) => None,
-    }
-}
-
-fn all_known(words: &[String]) -> bool
-    ensures { result ≡ list_all (λ word. not (is_option (string_bytes word)) || is_known (string_bytes word)) words.now }
-{
-    words.iter().all(|word| !is_option(word.as_str()) || is_known(word.as_str()))
-}
-
-fn count_of(words: &[String], option: &str) -> usize
-    ensures { result ≡ count_by (λ word. bytes_eq (string_bytes word) option.now) words.now }
-{
-    words.iter().filter(|word| word.as_str() == option).count()
-}
-
-fn has_option(words: &[String], option: &str) -> bool
-    ensures { result ≡ list_any (λ word. bytes_eq (string_bytes word) option.now) words.now }
-{
-    words.iter().any(|word| word.as_str() == option)
-}
-
-#[tactic(auto, using(crate::proofs::Splitting::options_fit_of_map))]
-fn options_fit(words: &[String]) -> bool
-    ensures { result ≡ options_fit (map string_bytes words.now) }
-{
-    all_known(words) && count_of(words, JOURNAL) < 2 && count_of(words, MEANING) < 2
-}
-
-fn with_options(journal: bool, meaning: bool, command: Command) -> Option<Asked>
-    ensures { result ≡ with_options journal meaning command }
-{
-    match command {
-        Command::Check | Command::Code | Command::Show if journal || meaning => None,
-        _ => Some(Asked {
-            command,
-            journal,
-            meaning,
-        }),
-    }
-}
-
-#[tactic(auto, using(crate::proofs::Splitting::asked_split_of_map))]
-fn asked_split(before: &[String], after: &[String]) -> Option<Asked>
-    ensures { result ≡ asked_split (map string_bytes before.now) (map string_bytes after.now) }
-{
-    if !options_fit(before) {
-        return None;
-    }
-    let command = command_of(before, after)?;
-    let journal = has_option(before, JOURNAL);
-    let meaning = has_option(before, MEANING);
-    with_options(journal, meaning, command)
-}
-
-fn dashes(words: &[String]) -> Option<usize>
-    ensures { result ≡ position (λ word. is_dashes (string_bytes word)) words.now }
-{
-    words.iter().position(|word| word.as_str() == "--")
+    Some(read)
 }
 
 /// What the words ask for, None where they are no command.
+#[tactic(auto, unfolding(crate::specs::Words::asked))]
 pub fn asked(words: &[String]) -> Option<Asked>
     ensures { result ≡ asked (map string_bytes words.now) }
 {
-    match dashes(words) {
-        None => asked_split(words, &[]),
-        Some(at) => asked_split(&words[..at], &words[at + 1..]),
-    }
+    words_read(words)?.asked()
 }

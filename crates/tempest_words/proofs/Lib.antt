@@ -1,2 +1,0 @@
-mod Splitting
-mod Taking
