@@ -1,9 +1,14 @@
--- A set of nodes as the bits of a byte: each fact is computed for all 256 bytes.
+-- Bits of numbers, and a set of nodes as the bits of a byte, where each fact is computed for all 256 bytes.
 use Rattle.std.specs.Prelude.{◌≡◌, ℕ, zero, suc, ◌<◌, ◌^◌, ◌==◌, ◌&&◌, Bool, true}
+use Rattle.std.specs.Int.{bit_at}
 use Rattle.std.proofs.Common.{refl, ap, arith, inl, inr}
 use Rattle.std.proofs.lemmas.Bool.{and_parts, cases_eq, eqb-true}
 use Rattle.tw_base.specs.NodeSets.{bits_of, tests_of}
 use Rattle.tw_base.specs.declared.node_set.NodeSet.TheInside.{Inside}
+
+-- whether bit k of a number is set
+abbrev pub has_bit : ℕ → ℕ → Bool
+has_bit bits k = bit_at bits k == 1
 
 -- a test of each number below n
 abbrev pub all_below : ℕ → (ℕ → Bool) → Bool

@@ -1,5 +1,5 @@
 -- Words on lists and sums that several crates use.
-use Rattle.std.specs.Prelude.{ℕ, zero, suc, ◌+◌, Bool, true, false, List, [], ◌∷◌}
+use Rattle.std.specs.Prelude.{ℕ, zero, suc, ◌+◌, min, Bool, true, false, List, [], ◌∷◌, Option, Some, None}
 
 -- each item has the property
 abbrev pub Each : {X : Type 0} → (X → Type 0) → List X → Type 0
@@ -19,3 +19,9 @@ one_if false = 0
 abbrev pub sum_below : ℕ → (ℕ → ℕ) → ℕ
 sum_below zero f = 0
 sum_below (suc n) f = sum_below n f + f n
+
+-- the lesser of two numbers, where there may be none
+abbrev pub lesser : Option ℕ → Option ℕ → Option ℕ
+lesser None b = b
+lesser (Some a) None = Some a
+lesser (Some a) (Some b) = Some (min a b)

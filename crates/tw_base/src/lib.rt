@@ -6,6 +6,7 @@
 #![tactic(auto)]
 
 mod entry;
+mod least;
 mod listed;
 mod memory;
 mod message;
@@ -19,6 +20,7 @@ mod tests;
 mod value;
 
 pub use entry::{Access, Act, After, End, Entry, Event, Trap};
+pub use least::lesser;
 pub use listed::Listed;
 pub use memory::Memory;
 pub use message::{Chan, Kind, Message};

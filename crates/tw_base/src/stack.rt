@@ -1,7 +1,7 @@
 ghost use Rattle.std.specs.Prelude.{◌≡◌, [], ◌∷◌, ◌↔◌, IsTrue, MatchOption, length, OnOk, OnErr, slice_get};
 ghost use Rattle.std.specs.Option.{option_copied};
 
-use crate::Memory;
+use crate::{Listed, Memory};
 use std::alloc::Global;
 use std::marker::Model;
 
@@ -45,6 +45,15 @@ impl<T> Stack<T> {
         ensures { option_copied result ≡ slice_get self.now 0 }
     {
         self.items.last()
+    }
+
+    /// The items in a list, the top first.
+    pub fn into_listed(self) -> Listed<T>
+        ensures { result ≡ self }
+    {
+        let Stack { mut items } = self;
+        items.reverse();
+        Listed::of(items)
     }
 
     pub fn len(&self) -> usize

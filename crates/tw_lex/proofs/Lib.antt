@@ -1,5 +1,6 @@
 mod Faults
 mod LinesFound
+mod NoneLeft
 mod Numbers
 mod Positions
 mod Scan

@@ -81,7 +81,7 @@ feeds-append (x ∷ xs) ys = omega (arith, feeds-append xs ys)
 
 -- ---- a line
 
-allowed-ok : (v : Bool) (number start : ℕ) (code : List ℕ) (ts : List Token) → cond v (tokens_of number start code) (Err (NotAscii number)) ≡ Ok ts → tokens_of number start code ≡ Ok ts
+pub allowed-ok : (v : Bool) (number start : ℕ) (code : List ℕ) (ts : List Token) → cond v (tokens_of number start code) (Err (NotAscii number)) ≡ Ok ts → tokens_of number start code ≡ Ok ts
 allowed-ok true number start code ts e = e
 allowed-ok false number start code ts e = absurd (cc)
 
@@ -142,17 +142,17 @@ module _ (text : List ℕ) (start : ℕ) (some : start < length text) where
 
 weaker : (text : List ℕ) (n m : ℕ) (ls : List Line) → n ≤ m → Rise text m ls → Rise text n ls
 weaker text n m [] le h = tt
-weaker text n m (l ∷ ls) le h = (omega (arith, h.0), h.1, h.2)
+weaker text n m (l ∷ ls) le h = (omega (arith, h.0), h.1, h.2, h.3)
 
 with-line : (text : List ℕ) (number : ℕ) (ts : List Token) (ls : List Line) → IsLine text (record { number = number; tokens = ts }) → Rise text (number + 1) ls → Rise text number (with_line number ts ls)
 with-line text number [] ls line rest = weaker text number (number + 1) ls (omega arith) rest
-with-line text number (t ∷ ts) ls line rest = (omega arith, line, rest)
+with-line text number (t ∷ ts) ls line rest = (omega arith, omega arith, line, rest)
 
-abbrev or_nil : {X : Type 0} → Result (List X) LexError → List X
+abbrev pub or_nil : {X : Type 0} → Result (List X) LexError → List X
 or_nil (Ok xs) = xs
 or_nil (Err e) = []
 
-ok-is : {X : Type 0} {u v : Result (List X) LexError} → u ≡ v → or_nil u ≡ or_nil v
+pub ok-is : {X : Type 0} {u v : Result (List X) LexError} → u ≡ v → or_nil u ≡ or_nil v
 ok-is e = ap or_nil e
 
 rest-found : (text : List ℕ) (number : ℕ) (ts : List Token) (rest : Result (List Line) LexError) (ls : List Line) → IsLine text (record { number = number; tokens = ts })
@@ -206,7 +206,7 @@ list_of : Result Lexed LexError → List Line
 list_of (Ok x) = x.list
 list_of (Err e) = []
 
-found-is : (found : Result (List Line) LexError) (all : ℕ) (x : Lexed) → (found >>= λ ls. Ok (record { all = all; list = ls })) ≡ Ok x → found ≡ Ok x.list
+pub found-is : (found : Result (List Line) LexError) (all : ℕ) (x : Lexed) → (found >>= λ ls. Ok (record { all = all; list = ls })) ≡ Ok x → found ≡ Ok x.list
 unfolding list_of
 found-is (Ok ls) all x e = ap Ok (ap list_of e)
 found-is (Err f) all x e = absurd (cc)

@@ -3,7 +3,7 @@ use Rattle.std.proofs.Common.{◌≡◌, ℕ, suc, ◌+◌, ◌^◌, Bool, true,
 use Rattle.std.specs.Prelude.{not, ◌==◌, nat_le, nat_lt, is_some}
 use Rattle.std.specs.Option.{option_map}
 use Rattle.std.specs.List.{list_all, prefix_len}
-use Rattle.std.proofs.lemmas.Bool.{and_from, and_parts, eqb-true}
+use Rattle.std.proofs.lemmas.Bool.{and_from, and_parts, or_left, eqb-true}
 use Rattle.std.proofs.lemmas.List.Folds.{length-prefix_len}
 use Rattle.tw_lex.specs.declared.token.What.{What}
 use Rattle.tw_lex.specs.declared.token.What.TheVariants.{Word, Number, Mark as AMark}
@@ -11,7 +11,7 @@ use Rattle.tw_lex.specs.declared.token.Mark.{Mark}
 use Rattle.tw_lex.specs.declared.token.Mark.TheVariants.{Open, Close, BraceOpen, BraceClose, Comma, Semicolon, Colon, Becomes, Plus, Minus, Equal, Unequal, Less, LessEqual, Both, Either}
 use Rattle.tw_lex.specs.Bytes.{is_digit, is_word_start, is_word_byte}
 use Rattle.tw_lex.specs.Lexemes.{lexeme, decimal_value, mark_at, or_single, single_mark, pair_mark, word_run, word_at, number_at}
-use Rattle.tw_lex.specs.Laws.{spelling, IsSpelled, is_longer, extends, Ends}
+use Rattle.tw_lex.specs.Laws.{spelling, BeginsWord, IsSpelled, is_longer, extends, Ends}
 
 abbrev Good : List ℕ → Option (What × ℕ) → Type 0
 Good bytes found = IfSome found (λ x. IsSpelled x.0 (take x.1 bytes) × Ends x.0 (drop x.1 bytes))
@@ -119,9 +119,20 @@ ends-from what (x ∷ xs) f s = f x ∙ s
 run-ends : (what : What) (bytes : List ℕ) → ((b : ℕ) → extends what b ≡ is_word_byte b) → Ends what (drop (length (word_run bytes)) bytes)
 run-ends what bytes f = ends-from what _ f (subst (λ n. Stops is_word_byte (drop n bytes)) (sym (run-length bytes)) (front-stops is_word_byte bytes))
 
-word-good : (v : Bool) (bytes : List ℕ) → Good bytes (cond v (Some (Word (word_run bytes), length (word_run bytes))) None)
-word-good true bytes = ((take-run bytes, run-passes bytes), run-ends (Word (word_run bytes)) bytes (λ b. refl))
-word-good false bytes = tt
+begins-front : (v : Bool) (b : ℕ) (bs : List ℕ) (n : ℕ) → v ≡ true → is_word_start b ≡ true → BeginsWord (take (cond v (1 + n) 0) (b ∷ bs))
+begins-front true b bs n e start =
+    let more : suc n ≡ 1 + n = omega arith in
+    subst (λ k. BeginsWord (take k (b ∷ bs))) more start
+begins-front false b bs n e start = absurd (cc)
+
+run-begins : (b : ℕ) (bs : List ℕ) → is_word_start b ≡ true → BeginsWord (take (length (word_run (b ∷ bs))) (b ∷ bs))
+run-begins b bs start =
+    subst (λ n. BeginsWord (take n (b ∷ bs))) (sym (run-length (b ∷ bs)))
+    (begins-front (is_word_byte b) b bs (prefix_len is_word_byte bs) (or_left (is_word_start b) (is_digit b) start) start)
+
+word-good : (v : Bool) (bytes : List ℕ) → BeginsWord (take (length (word_run bytes)) bytes) → Good bytes (cond v (Some (Word (word_run bytes), length (word_run bytes))) None)
+word-good true bytes begins = ((take-run bytes, begins, run-passes bytes), run-ends (Word (word_run bytes)) bytes (λ b. refl))
+word-good false bytes begins = tt
 
 number-good : (v : Bool) (bytes : List ℕ) → (v ≡ true → list_all is_digit (word_run bytes) ≡ true)
     → Good bytes (option_map (λ n. (Number n, length (word_run bytes))) (cond v (Some (decimal_value (word_run bytes))) None))
@@ -136,7 +147,7 @@ lexeme-good (b ∷ bs) =
     let bytes = b ∷ bs in
     let run = word_run bytes in
     if_good bytes (is_word_start b) (word_at run) (cond (is_digit b) (number_at run) (mark_at bytes))
-    (λ _. word-good (nat_le (length run) 64) bytes)
+    (λ start. word-good (nat_le (length run) 64) bytes (run-begins b bs start))
     (λ _. if_good bytes (is_digit b) (number_at run) (mark_at bytes)
     (λ _. number-good (list_all is_digit run && nat_lt (decimal_value run) (2 ^ 64)) bytes (λ e. (and_parts (list_all is_digit run) (nat_lt (decimal_value run) (2 ^ 64)) e).0))
     (λ _. mark_at-good bytes))

@@ -1,7 +1,7 @@
 -- What the tokens of a text are, in the words of a reader: slices of the text in order, each as long as can be, with
 -- nothing but blanks between them.
-use Rattle.std.specs.Prelude.{◌≡◌, ℕ, ◌+◌, ◌<◌, ◌≤◌, ◌==◌, ◌||◌, ◌⊎◌, not, Bool, true, false, List, [], ◌∷◌, None, Ok, Err, is_some, slice_range, length, take, drop, codes}
-use Rattle.std.specs.List.{list_all}
+use Rattle.std.specs.Prelude.{◌≡◌, ℕ, ◌+◌, ◌<◌, ◌≤◌, ◌==◌, ◌||◌, ◌⊎◌, not, Bool, true, false, List, [], ◌∷◌, None, Some, Ok, Err, is_some, slice_get, slice_range, length, take, drop, codes}
+use Rattle.std.specs.List.{list_all, list_any}
 use Rattle.tw_base.specs.Lists.{how_many, one_if}
 use Rattle.tw_lex.specs.declared.token.Token.{Token}
 use Rattle.tw_lex.specs.declared.token.What.{What}
@@ -12,7 +12,7 @@ use Rattle.tw_lex.specs.declared.token.Line.{Line}
 use Rattle.tw_lex.specs.declared.token.Lexed.{Lexed}
 use Rattle.tw_lex.specs.declared.token.LexError.{LexError}
 use Rattle.tw_lex.specs.declared.token.LexError.TheVariants.{NotAscii, BadToken}
-use Rattle.tw_lex.specs.Bytes.{is_line_feed, is_blank, is_digit, is_word_byte, is_allowed, code_of}
+use Rattle.tw_lex.specs.Bytes.{is_line_feed, is_blank, is_digit, is_word_start, is_word_byte, is_allowed, code_of}
 use Rattle.tw_lex.specs.Lexemes.{decimal_value, pair_mark}
 use Rattle.tw_lex.specs.Lines.{tokens_from, tokens_of, line_tokens, lines_of, lexed}
 
@@ -34,9 +34,14 @@ spelling LessEqual = codes "<="
 spelling Both = codes "&"
 spelling Either = codes "|"
 
+-- the first byte is a letter or `_`
+abbrev pub BeginsWord : List ℕ → Type 0
+BeginsWord [] = ⊥
+BeginsWord (b ∷ rest) = is_word_start b ≡ true
+
 -- these are a token's bytes
 abbrev pub IsSpelled : What → List ℕ → Type 0
-IsSpelled (Word name) bytes = (bytes ≡ name) × (list_all is_word_byte bytes ≡ true)
+IsSpelled (Word name) bytes = (bytes ≡ name) × BeginsWord bytes × (list_all is_word_byte bytes ≡ true)
 IsSpelled (Number n) bytes = (decimal_value bytes ≡ n) × (list_all is_digit bytes ≡ true)
 IsSpelled (AMark mark) bytes = bytes ≡ spelling mark
 
@@ -112,14 +117,25 @@ pub record IsCode (text : List ℕ) (number from to : ℕ) : Type 0 where
 abbrev pub IsLine : List ℕ → Line → Type 0
 IsLine text line = (from : ℕ) × (to : ℕ) × IsCode text line.number from to × InOrder text from to line.tokens
 
--- lines of a text with rising numbers, the first of them this or more
+-- lines of a text that have tokens, with rising numbers, the first of them this or more
 abbrev pub Rise : List ℕ → ℕ → List Line → Type 0
 Rise text number [] = Unit {0}
-Rise text number (line ∷ rest) = (number ≤ line.number) × IsLine text line × Rise text (line.number + 1) rest
+Rise text number (line ∷ rest) = (number ≤ line.number) × (0 < length line.tokens) × IsLine text line × Rise text (line.number + 1) rest
 
--- Each line that is found is a line of the text, with its number and the tokens of its code, in rising order.
+-- whether there is a line of this number
+abbrev pub is_listed : ℕ → List Line → Bool
+is_listed number found = list_any (λ line. line.number == number) found
+
+-- The lines that are found are lines of the text that have tokens, each with its number and the tokens of its code, in
+-- rising order.
 abbrev pub LinesAreTheTexts : Type 0
 LinesAreTheTexts = (text : List ℕ) (found : Lexed) → lexed text ≡ Ok found → Rise text 1 found.list
+
+-- No line is left out: where the code of a line of the text is more than blanks, the line is there.
+abbrev pub NoLineIsLeftOut : Type 0
+NoLineIsLeftOut =
+    (text : List ℕ) (found : Lexed) → lexed text ≡ Ok found → (before : ℕ) (line : List ℕ) → slice_get (lines_of text) before ≡ Some line
+    → list_all is_blank (code_of line) ≡ false → is_listed (before + 1) found.list ≡ true
 
 -- ---- faults
 

@@ -18,7 +18,7 @@ lines_of [] = []
 lines_of (b ∷ bs) = if is_line_feed b then [] ∷ lines_of bs else onto_first b (lines_of bs)
 
 -- a token and those after it
-abbrev put_token : ℕ → Option (What × ℕ) → (ℕ → Option (List Token)) → Option (List Token)
+abbrev pub put_token : ℕ → Option (What × ℕ) → (ℕ → Option (List Token)) → Option (List Token)
 put_token at None rest = None
 put_token at (Some found) rest = option_map (λ ts. record { start = at; end = at + found.1; what = found.0 } ∷ ts) (rest (found.1 - 1))
 

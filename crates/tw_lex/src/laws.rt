@@ -1,6 +1,6 @@
 //! What the tokens of a text are, as laws about the definition that `lines` answers: each function's contract is one.
 
-ghost use Rattle.tw_lex.specs.Laws.{TokensAreSlices, LinesAreTheTexts, FaultsAreFirst};
+ghost use Rattle.tw_lex.specs.Laws.{TokensAreSlices, LinesAreTheTexts, NoLineIsLeftOut, FaultsAreFirst};
 
 /// The tokens of a line are slices of the text in order, each as long as can be, with nothing but blanks between them.
 #[tactic(auto, using(crate::proofs::Slices::tokens_are_slices))]
@@ -13,6 +13,12 @@ pub fn tokens_are_slices()
 #[tactic(auto, using(crate::proofs::LinesFound::lines_are_the_texts))]
 pub fn lines_are_the_texts()
     ensures { LinesAreTheTexts }
+{}
+
+/// Each line of the text whose code is more than blanks is found.
+#[tactic(auto, using(crate::proofs::NoneLeft::no_line_is_left_out))]
+pub fn no_line_is_left_out()
+    ensures { NoLineIsLeftOut }
 {}
 
 /// A fault of a text is that of its first line with a fault, and each line before it has its tokens.

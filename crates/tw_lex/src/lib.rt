@@ -11,7 +11,7 @@ mod split;
 mod tests;
 mod token;
 
-pub use laws::{faults_are_first, lines_are_the_texts, tokens_are_slices};
+pub use laws::{faults_are_first, lines_are_the_texts, no_line_is_left_out, tokens_are_slices};
 pub use lexeme::number_of;
 pub use split::lines;
 pub use token::{LexError, Lexed, Line, Mark, Token, What};

@@ -53,11 +53,14 @@ pub struct Lexed {
     pub list: Listed<Line>,
 }
 
-#[derive(Clone, Copy, Debug, PartialEq, Eq)]
+#[derive(Clone, Copy, Debug, PartialEq, Eq, thiserror::Error)]
 pub enum LexError {
     /// A byte that may stand only in a comment.
+    #[error("line {line}: a byte that may stand only in a comment")]
     NotAscii { line: u32 },
+    #[error("line {line}: no token")]
     BadToken { line: u32 },
+    #[error("out of memory")]
     Memory,
 }
 
