@@ -17,9 +17,10 @@ use Rattle.handler_code.specs.declared.code.OpCode.TheVariants as op
 use Rattle.handler_code.specs.declared.code.Rest.{Rest}
 use Rattle.handler_code.specs.Live.{HasOp, LeadsTo}
 use Rattle.handler_code.specs.Machine.{Machine, Move, Next, Stop, Stopped, Saved, Runs, stops, moves, act, act_at, below, counted, landing, move_of, place_of_rest, message_arity, resumed, state_arity, stopped, suspended, top, turn, value_at}
+use Rattle.handler_code.specs.Stacks.{HasDepth, taken_by}
 use Rattle.handler_vm.specs.Chains.{IsFull}
 use Rattle.handler_vm.specs.Inside.{IsInner, OnNext}
-use Rattle.handler_vm.specs.Room.{HasDepth, HasPlaces, IsThere, taken_by}
+use Rattle.handler_vm.specs.Room.{HasPlaces, IsThere}
 
 -- ---- ops are counted, sends are never fewer
 

@@ -102,7 +102,7 @@ spares_taken {store} {other} {key} {r} e change = record {
   others = λ k off. change.others k (λ same. off (subst (λ (z : RecordKey). IsOn store (Some key) z) (sym same) newest));
 }
 
-on_named : {store : Store} {key : Option RecordKey} {rs : List Record} → Chained store key rs → {k : RecordKey} → IsOn store key k → record_at store k ≡ None → ⊥
+pub on_named : {store : Store} {key : Option RecordKey} {rs : List Record} → Chained store key rs → {k : RecordKey} → IsOn store key k → record_at store k ≡ None → ⊥
 on_named ends h none = elim h [ ]
 on_named (heads e d rest) newest none = cc
 on_named {store} (heads {r = r} e d rest) {k} (older {r = s} f h) none =
@@ -116,12 +116,34 @@ pub keeps_spared : {old new : Store} {was now : Option RecordKey} {rs : List Rec
 keeps_spared chain s = record {
   stay = λ key r e off. s.others key off ∙ e;
   come = λ key none fresh. s.others key (λ h. on_named chain h none) ∙ none;
+  fresh = λ key h off. absurd (off (s.on key h));
 }
 
-pub keeps_saved : {old mid new : Store} {was now : Option RecordKey} {rs : List Record} {key : RecordKey} {r : Record} → Chained old was rs → Spares old mid was now → record_at mid key ≡ None → Changes mid new key (Some r) → KeepsOthers old new was (Some key)
-keeps_saved {old} {mid} {new} {was} {now} {rs} {key} {r} chain s free change = record {
+-- what is on the chain after a record was saved beside it was on it before
+was_on : {mid new : Store} {key : RecordKey} {r : Record} {now : Option RecordKey} {rs : List Record} → Chained mid now rs → record_at mid key ≡ None → Changes mid new key (Some r) → {k : RecordKey} → IsOn new now k → IsOn mid now k
+was_on ends free change h = elim h [ ]
+was_on (heads e d rest) free change newest = newest
+was_on {mid} {new} {key} (heads {key = top} {r = x} e d rest) free change {k} (older {r = y} f h) =
+    let there : record_at new top ≡ Some x = change.others top (λ same. let both : Some x ≡ None = sym e ∙ ap (record_at mid) same ∙ free in cc) ∙ e in
+    let both : Some y ≡ Some x = sym f ∙ there in
+    let is : y ≡ x = cc in
+    older e (was_on rest free change (subst (λ (z : Record). IsOn new z.parent k) is h))
+
+-- a record is saved on top of what is left of the chain
+pub keeps_saved : {old mid new : Store} {was now : Option RecordKey} {rs more : List Record} {key : RecordKey} {r : Record} → Chained old was rs → Spares old mid was now → Chained mid now more → r.parent ≡ now
+    → record_at mid key ≡ None → Changes mid new key (Some r) → KeepsOthers old new was (Some key)
+keeps_saved {old} {mid} {new} {was} {now} {rs} {more} {key} {r} chain s left parent free change = record {
   stay = λ k x e off.
       let mid_has : record_at mid k ≡ Some x = s.others k off ∙ e in
       change.others k (λ same. let both : Some x ≡ None = sym mid_has ∙ ap (record_at mid) same ∙ free in cc) ∙ mid_has;
-  come = λ k none fresh. change.others k (λ same. fresh (ap Some (sym same))) ∙ s.others k (λ h. on_named chain h none) ∙ none;
+  come = λ k none other. change.others k (λ same. other (ap Some (sym same))) ∙ s.others k (λ h. on_named chain h none) ∙ none;
+  fresh = λ k h off. at h off;
 }
+  where
+    at : {k : RecordKey} → IsOn new (Some key) k → (IsOn old was k → ⊥) → record_at old k ≡ None
+    at newest off = sym (s.others key off) ∙ free
+    at {k} (older {r = y} e h) off =
+        let both : Some y ≡ Some r = sym e ∙ change.changed in
+        let is : y ≡ r = cc in
+        let from : IsOn new now k = subst (λ (z : Option RecordKey). IsOn new z k) (ap (λ (x : Record). x.parent) is ∙ parent) h in
+        absurd (off (s.on k (was_on left free change from)))

@@ -7,6 +7,7 @@ use Rattle.handler_code.specs.declared.code.OpCode.{OpCode}
 use Rattle.handler_code.specs.declared.code.OpCode.TheVariants as op
 use Rattle.handler_code.specs.Live.{HasOp}
 use Rattle.handler_code.specs.Machine.{Machine, Move, Next, Saved, Stopped, Runs, stops, moves, act, act_at, move_of}
+use Rattle.handler_code.specs.Stacks.{HasDepth, put_by, taken_by}
 use Rattle.tw_base.specs.Lists.{Each}
 use Rattle.tw_base.specs.declared.message.Message.{Message}
 use Rattle.cont_store.specs.declared.record.Record.{Record}
@@ -15,7 +16,7 @@ use Rattle.handler_vm.specs.declared.running.Running.{Running}
 use Rattle.handler_vm.specs.Chains.{IsWhole, Spares, records_of, saved_from, saved_of}
 use Rattle.handler_vm.specs.Inside.{IsAtOp, IsSound, OnNext, SameBlock, WillStop, machine_of}
 use Rattle.handler_vm.specs.Sending.{IsUnsent}
-use Rattle.handler_vm.specs.Room.{HasDepth, HasPlaces, put_by, taken_by}
+use Rattle.handler_vm.specs.Room.{HasPlaces}
 use Rattle.handler_vm.proofs.Acting.{Placed, deeper, placed_next, run_grows}
 use Rattle.handler_vm.proofs.Chaining.{spares_all, spares_more}
 

@@ -4,6 +4,7 @@ mod Entering
 mod Finding
 mod Going
 mod Members
+mod Parting
 mod Saving
 mod Sent
 mod Stacks

@@ -1,24 +1,8 @@
 -- The members of a set, one node after another.
-use Rattle.std.proofs.Common.{◌≡◌, ℕ, zero, suc, ◌+◌, ◌<◌, ◌≤◌, Bool, true, false, List, [], ◌∷◌, ◌++◌, length, take, Some, refl, ap, ◌∙◌, arith, add-one, append-nil, length-append}
+use Rattle.std.proofs.Common.{◌≡◌, ℕ, zero, suc, ◌+◌, ◌<◌, ◌≤◌, Bool, true, false, List, [], ◌∷◌, ◌++◌, length, take, Some, ap, ◌∙◌, arith, append-nil, length-append}
 use Rattle.std.specs.Prelude.{if◌then◌else◌, slice_get}
 use Rattle.tw_base.specs.NodeSets.{has, members_from}
-
--- one node more
-members_next : (j k : ℕ) (s : List Bool) → members_from j (take (suc k) s) ≡ members_from j (take k s) ++ (if has s k then (j + k) ∷ [] else [])
-unfolding has
-members_next j zero [] = refl
-members_next j (suc k) [] = refl
-members_next j zero (true ∷ s) = let e : j ≡ j + 0 = omega arith in ap (λ n. n ∷ []) e
-members_next j zero (false ∷ s) = refl
-members_next j (suc k) (true ∷ s) = let e : suc j + k ≡ j + suc k = omega arith in
-    ap (λ ns. j ∷ ns) (members_next (suc j) k s ∙ ap (λ n. members_from (suc j) (take k s) ++ (if has s k then n ∷ [] else [])) e)
-members_next j (suc k) (false ∷ s) = let e : suc j + k ≡ j + suc k = omega arith in
-    members_next (suc j) k s ∙ ap (λ n. members_from (suc j) (take k s) ++ (if has s k then n ∷ [] else [])) e
-
-pub members_more : (k : ℕ) (s : List Bool) → members_from 0 (take (k + 1) s) ≡ members_from 0 (take k s) ++ (if has s k then k ∷ [] else [])
-members_more k s =
-    let e : 0 + k ≡ k = omega arith in
-    ap (λ n. members_from 0 (take n s)) (add-one k) ∙ members_next 0 k s ∙ ap (λ n. members_from 0 (take k s) ++ (if has s k then n ∷ [] else [])) e
+use Rattle.teapot_meaning.proofs.Members.{members_more}
 
 -- a member below which there is none
 least_from : (j k n : ℕ) (s : List Bool) → members_from j (take k s) ≡ [] → has s k ≡ true → k < n → slice_get (members_from j (take n s)) 0 ≡ Some (j + k)

@@ -66,9 +66,11 @@ pub data IsOn (store : Store) : Option RecordKey → RecordKey → Type 0 where
       IsOn store (Some key) other
 
 -- Of the records that were there, those of the chain alone may go, and the newest of the chain as it is now alone may be new.
+-- What is on the chain as it is now was on it before, or its key named nothing.
 pub record KeepsOthers (old new : Store) (was now : Option RecordKey) : Type 0 where
   pub stay : (key : RecordKey) (r : Record) → record_at old key ≡ Some r → (IsOn old was key → ⊥) → record_at new key ≡ Some r
   pub come : (key : RecordKey) → record_at old key ≡ None → now ≢ Some key → record_at new key ≡ None
+  pub fresh : (key : RecordKey) → IsOn new now key → (IsOn old was key → ⊥) → record_at old key ≡ None
 
 -- the chain as it is now is part of the chain that was, and all else in the store is the same
 pub record Spares (old new : Store) (was now : Option RecordKey) : Type 0 where

@@ -1,5 +1,5 @@
 -- The messages that a run sends.
-use Rattle.std.specs.Prelude.{ℕ, ◌≡◌, ◌≤◌, List, Option, Some, None, take}
+use Rattle.std.specs.Prelude.{ℕ, ◌≡◌, List, Option, Some, None, length, take}
 use Rattle.tw_base.specs.declared.message.Chan.{Chan}
 use Rattle.tw_base.specs.declared.message.Chan.TheVariants.{Zero}
 use Rattle.tw_base.specs.declared.message.Message.{Message}
@@ -13,13 +13,13 @@ pub record Sends : Type 0 where
   pub sent : List Message
   pub room : ℕ
 
--- there is room for as many messages as a handler sends at most
-abbrev pub IsReady : Sends → Type 0
-IsReady s = 288 ≤ s.room
-
 -- what of a message the handler says
 abbrev pub out_of : Message → Out
 out_of m = record { to = m.to; kind = m.kind; args = take m.arg_count m.args; payload = m.payload }
+
+-- the same message to another node
+abbrev pub addressed : Message → ℕ → Message
+addressed m to = record m { to = to }
 
 abbrev pub chan_in : Option MessageDecl → Chan
 chan_in (Some m) = m.chan
@@ -32,3 +32,4 @@ pub record IsUnsent (p : Protocol) (me block : ℕ) (m : Message) : Type 0 where
   pub chan : m.chan ≡ chan_in (declared_as p m.kind)
   pub number : m.number ≡ 0
   pub stamp : m.stamp ≡ 0
+  pub places : length m.args ≡ 4

@@ -1,43 +1,40 @@
-ghost use Rattle.std.specs.Prelude.{◌≡◌, [], ◌∷◌, ◌++◌, ◌<◌, ◌≤◌, length, IfOk, IsOk, OnOk};
-ghost use Rattle.handler_vm.specs.Sending.{IsReady};
+ghost use Rattle.std.specs.Prelude.{◌≡◌, [], ◌∷◌, ◌++◌, ◌<◌, ◌≤◌, length, IfOk, IsOk};
 
 use std::alloc::Global;
 use std::marker::Model;
 use tw_base::{Data, Memory, Message, Value};
 
-/// Room for the messages that a handler sends.
+/// Room for 288 messages, as many as a handler sends at most.
 #[derive(Drop)]
 pub struct Around {
     sends: Vec<Message>,
 }
 
 impl Model for Around {
-    ghost use Rattle.std.specs.Prelude.{vec_capacity};
+    ghost use Rattle.std.specs.Prelude.{vec_capacity, ◌≤◌};
     ghost use Rattle.handler_vm.specs.Sending.{Sends};
 
     ghost Value = { Sends };
 
     ghost view = { λ a. record { sent = a.sends.items; room = vec_capacity a.sends } };
+
+    ghost invariant = { λ a. 288 ≤ vec_capacity a.sends };
 }
 
 impl Around {
     pub fn new(alloc: Global) -> Result<Around, Memory>
-        ensures empty { IfOk result (λ a. a.sent ≡ []) }
-        ensures ready { IfOk result IsReady }
+        ensures { IfOk result (λ a. a.sent ≡ []) }
     {
         let sends = Vec::with_capacity(alloc, 288)?;
         Ok(Around { sends })
     }
 
-    /// Makes room for 288 sends, and forgets those that were sent.
+    /// Forgets the messages that were sent. It takes no memory, and cannot fail.
     pub fn ready(&mut self) -> Result<(), Memory>
-        ensures ready { OnOk result (IsReady self.new) }
-        ensures had_room { IsReady self.old → IsOk result }
-        ensures cleared { self.new.sent ≡ [] }
-        ensures grows { self.old.room ≤ self.new.room }
+        ensures ok { IsOk result }
+        ensures cleared { self.new ≡ record { sent = []; room = self.old.room } }
     {
-        self.sends.clear();
-        self.sends.reserve(288)?;
+        self.clear();
         Ok(())
     }
 
@@ -49,7 +46,8 @@ impl Around {
     }
 
     pub(crate) fn clear(&mut self)
-        ensures { self.new ≡ record { sent = []; room = self.old.room } }
+        ensures cleared { self.new ≡ record { sent = []; room = self.old.room } }
+        ensures roomy { 288 ≤ self.new.room }
     {
         self.sends.clear();
     }

@@ -13,6 +13,7 @@ mod cell;
 mod doors;
 mod enter;
 mod go;
+mod laws;
 mod machine;
 mod records;
 mod running;
@@ -24,4 +25,5 @@ mod work;
 
 pub use around::Around;
 pub use cell::{Cell, Ran};
+pub use laws::chains_stay_apart;
 pub use machine::run;

@@ -7,7 +7,6 @@ ghost use Rattle.handler_vm.specs.Inside.{begun};
 ghost use Rattle.handler_vm.specs.Leaves.{Leaves, Stops, StopsAt, kept_of};
 ghost use Rattle.handler_vm.specs.Order.{IsInOrder};
 ghost use Rattle.handler_vm.specs.Room.{HasRoom};
-ghost use Rattle.handler_vm.specs.Sending.{IsReady};
 
 use crate::around::Around;
 use crate::cell::{Cell, Ran};
@@ -111,7 +110,6 @@ fn run_at(
     requires stops { Stops p.now code.now me home cell.old blocks.old conts.old m.now }
     requires chain { IsChain blocks.old.shape.words conts.old cell.old.cont }
     requires spare { 1 ≤ conts.old.spare }
-    requires ready { IsReady around.old }
     requires block { m.now.block < blocks.old.shape.blocks }
     requires full { IsFull blocks.old.shape.words m.now.payload }
     ensures leaves { (e : Stopped)
@@ -150,7 +148,6 @@ pub fn run(
     requires stops { Stops p.now code.now me home cell.old blocks.old conts.old m.now }
     requires chain { IsChain blocks.old.shape.words conts.old cell.old.cont }
     requires spare { 1 ≤ conts.old.spare }
-    requires ready { IsReady around.old }
     requires block { m.now.block < blocks.old.shape.blocks }
     requires full { IsFull blocks.old.shape.words m.now.payload }
 

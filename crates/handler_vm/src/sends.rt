@@ -3,7 +3,7 @@ ghost use Rattle.teapot_meaning.specs.Depth.{nodes_in};
 ghost use Rattle.teapot_meaning.specs.Steps.{node_of, out_to, payload_of, set_of};
 ghost use Rattle.handler_code.specs.Machine.{below, message_arity, top};
 ghost use Rattle.handler_vm.specs.Inside.{HasFew, StaysUnsent};
-ghost use Rattle.handler_vm.specs.Sending.{IsUnsent, chan_in, out_of};
+ghost use Rattle.handler_vm.specs.Sending.{IsUnsent, addressed, chan_in, out_of};
 
 use crate::around::Around;
 use crate::running::Running;
@@ -38,6 +38,28 @@ fn payload(p: &Protocol, number: u8, words: &Data) -> Option<Data>
         Some(*words)
     } else {
         None
+    }
+}
+
+/// The same message to another node.
+fn addressed(m: &Message, to: NodeId) -> Message
+    ensures { result ≡ addressed m.now to }
+{
+    let mut sent = *m;
+    sent.to = to;
+    sent
+}
+
+/// Sends the message to each node of a set, in rising order.
+fn send_each(set: NodeSet, m: &Message, around: &mut Around)
+    requires { length around.old.sent + length (nodes_in set) ≤ around.old.room }
+    ensures { around.new ≡ record { sent = around.old.sent ++ map (addressed m.now) (nodes_in set); room = around.old.room } }
+{
+    for k in 0..8 {
+        let to = node(k);
+        if set.has(to) {
+            around.push(addressed(m, to));
+        }
     }
 }
 
@@ -108,30 +130,7 @@ impl Running {
         let args = self.take(message_arity(p, number));
         let set = set_of(self.pop());
         let payload = payload(p, number, &self.words);
-        self.send_each(p, set, number, &args, &payload, around);
-    }
-
-    /// Sends to each node of a set, in rising order.
-    fn send_each(
-        &self,
-        p: &Protocol,
-        set: NodeSet,
-        number: u8,
-        args: &Args,
-        payload: &Option<Data>,
-        around: &mut Around,
-    )
-        requires declared { number < length p.now.messages }
-        requires room { length around.old.sent + length (nodes_in set) ≤ around.old.room }
-        ensures sent { map out_of around.new.sent ≡ map out_of around.old.sent ++ map (out_to number args.now payload.now) (nodes_in set) }
-        ensures unsent { StaysUnsent p.now self.now around.old around.new }
-        ensures room { around.new.room ≡ around.old.room }
-    {
-        for k in 0..8 {
-            let to = node(k);
-            if set.has(to) {
-                around.push(self.message(p, to, number, args, payload));
-            }
-        }
+        let first = self.message(p, self.me, number, &args, &payload);
+        send_each(set, &first, around);
     }
 }

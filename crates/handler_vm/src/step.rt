@@ -1,9 +1,10 @@
 ghost use Rattle.std.specs.Prelude.{◌≡◌, ◌+◌, ◌^◌, ◌<◌, ◌≤◌, List, length, IfNone, IfSome, OnSome, slice_get};
 ghost use Rattle.tw_base.specs.declared.message.Message.{Message};
 ghost use Rattle.handler_code.specs.Machine.{Next, Stop, Stopped, act, state_arity};
+ghost use Rattle.handler_code.specs.Stacks.{put_by, taken_by};
 ghost use Rattle.handler_vm.specs.Chains.{KeepsOthersFrom, Spares, saved_from};
 ghost use Rattle.handler_vm.specs.Inside.{HasFew, IsSound, IsStop, OnNext, SameBlock, StaysUnsent, machine_of, machine_with};
-ghost use Rattle.handler_vm.specs.Room.{IsThere, put_by, taken_by};
+ghost use Rattle.handler_vm.specs.Room.{IsThere};
 
 use crate::around::Around;
 use crate::running::Running;

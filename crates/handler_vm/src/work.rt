@@ -5,8 +5,9 @@ ghost use Rattle.teapot_meaning.specs.Steps.{freed_kept, least_of, set_of};
 ghost use Rattle.teapot_meaning.specs.Values.{count_of, not_of, one_of, two_of};
 ghost use Rattle.handler_code.specs.declared.code.Code.{Code};
 ghost use Rattle.handler_code.specs.Machine.{Next, Saved, act, below, state_arity, top, value_at};
+ghost use Rattle.handler_code.specs.Stacks.{put_by, taken_by};
 ghost use Rattle.handler_vm.specs.Inside.{HasFew, IsInner, SameBlock, machine_of};
-ghost use Rattle.handler_vm.specs.Room.{IsThere, put_by, taken_by};
+ghost use Rattle.handler_vm.specs.Room.{IsThere};
 
 use crate::running::Running;
 use crate::sets::least_of;

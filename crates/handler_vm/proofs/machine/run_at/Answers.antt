@@ -71,7 +71,7 @@ returns-clause-leaves c =
     let e = stop.0 in
     let is = stop.2 in
     let runs_q : Runs q code (machine_of q first [] (saved_from q conts first.cont)) e =
-    subst (λ (a : Sends). Runs q code (machine_of q first a.sent (saved_from q conts first.cont)) e) c.clear.ensures stop.1 in
+    subst (λ (a : Sends). Runs q code (machine_of q first a.sent (saved_from q conts first.cont)) e) c.clear.ensures.cleared stop.1 in
     let runs_p : Runs p code (machine_of p first [] (saved_from p conts first.cont)) e = subst (λ (x : Protocol). Runs x code (machine_of x first [] (saved_from x conts first.cont)) e) same runs_q in
     let runs : Runs p code (machine_of p start [] (saved_from p conts start.cont)) e = subst (λ (x : Running). Runs p code (machine_of p x [] (saved_from p conts x.cont)) e) begins runs_p in
     let cell = c.leave.ensures.cell in
@@ -83,7 +83,7 @@ returns-clause-leaves c =
     let arity : length e.args ≡ state_arity (slice_get p.states e.state) =
     ap length is.args ∙ is.arity ∙ ap (λ (x : Protocol). state_arity (slice_get x.states r.state)) same ∙ ap (λ n. state_arity (slice_get p.states n)) (sym is.state) in
     let unsent_q : All (IsUnsent q first.me first.block) sent =
-    c.go-end.ensures.unsent (subst (λ (a : Sends). All (IsUnsent q first.me first.block) a.sent) (sym c.clear.ensures) (All-nil (IsUnsent q first.me first.block))) in
+    c.go-end.ensures.unsent (subst (λ (a : Sends). All (IsUnsent q first.me first.block) a.sent) (sym c.clear.ensures.cleared) (All-nil (IsUnsent q first.me first.block))) in
     let unsent_p : All (IsUnsent p first.me first.block) sent = subst (λ (x : Protocol). All (IsUnsent x first.me first.block) sent) same unsent_q in
     let unsent : All (IsUnsent p start.me start.block) sent = subst (λ (x : Running). All (IsUnsent p x.me x.block) sent) begins unsent_p in
     let result : c.leave.result ≡ ran_of e = c.leave.ensures.result ∙ (λ j. record {

@@ -1,7 +1,8 @@
 use Rattle.std.proofs.Common.{◌≡◌, ◌∙◌, ℕ, List, ap, arith, sym, take, true, false}
 use Rattle.std.specs.Prelude.{slice_get}
 use Rattle.tw_base.specs.NodeSets.{has, members, members_from}
-use Rattle.handler_vm.proofs.Members.{least_at, members_more}
+use Rattle.teapot_meaning.proofs.Members.{members_more}
+use Rattle.handler_vm.proofs.Members.{least_at}
 use Rattle.handler_vm.proofs.sets.least_of.Goals as goal
 
 pub loop-k-preserved : goal.loop-k-preserved

@@ -67,4 +67,4 @@ returns-clause-stop c = λ sent.
     })
 
 pub returns-clause-others : goal.returns-clause-others
-returns-clause-others c = λ store was s chain. keeps_saved chain.named s c.save.ensures.was_free c.save.ensures.changes
+returns-clause-others c = λ store was s chain. keeps_saved chain.named s c.requires.sound.chain.named (ap (λ x. x.cont) c.take-args.ensures.rest) c.save.ensures.was_free c.save.ensures.changes
