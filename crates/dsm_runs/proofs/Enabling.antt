@@ -30,18 +30,7 @@ use Rattle.dsm_runs.specs.Invariants.{EnabledEventsStep, IsDeferredAt, IsNodeOf,
 use Rattle.dsm_runs.proofs.Asking.{AsksWell, asked_well}
 use Rattle.dsm_runs.proofs.Lists.{and_left, and_right, chan_eq-true, nat_eq_refl}
 use Rattle.dsm_runs.proofs.RunStates.{arrived, first_waits, refused_within}
-use Rattle.dsm_runs.proofs.Turns.{nat_eq_other}
-
--- ---- one place of a function changed
-
-abbrev put : {X : Type 0} → (ℕ → X) → ℕ → X → ℕ → X
-put f i x k = if nat_eq k i then x else f k
-
-put_here : {X : Type 0} (f : ℕ → X) (i : ℕ) (x : X) → put f i x i ≡ x
-put_here f i x = rw (nat_eq_refl i) refl
-
-put_other : {X : Type 0} (f : ℕ → X) (i : ℕ) (x : X) (k : ℕ) → k ≢ i → put f i x k ≡ f k
-put_other f i x k d = rw (nat_eq_other k i d) refl
+use Rattle.dsm_runs.proofs.Turns.{changed, changed_here, changed_other}
 
 -- ---- an event of one node
 
@@ -99,7 +88,7 @@ handled m l ended stamp instructions count sends = record {
   failed = failure ended.end;
   clock = stamp;
   cpu = l.cpu;
-  blocks = put l.blocks m.block ended.here;
+  blocks = changed l.blocks m.block ended.here;
   deferred = with_kept ended.kept m (freed_if ended.freed m.block l.deferred);
   instructions = instructions;
   handled = count;
@@ -111,8 +100,8 @@ handles : (s : Setup) (i stamp : ℕ) (m : Message) (l : Local) (ended : Ended) 
 handles s i stamp m l ended instructions count sends does outs = record {
   ended = ended;
   does = does;
-  here = put_here l.blocks m.block ended.here;
-  others = λ b d. put_other l.blocks m.block ended.here b d;
+  here = changed_here l.blocks m.block ended.here;
+  others = λ b d. changed_other l.blocks m.block ended.here b d;
   mode = refl;
   failed = refl;
   deferred = refl;
@@ -156,7 +145,7 @@ refuses s i l store b is h lt may refused =
 
 -- the blocks with a word written
 abbrev stored : Setup → Local → ℕ → ℕ → ℕ → Here
-stored s l address value = put l.blocks (block_of s address) (with_word_here s address value (l.blocks (block_of s address)))
+stored s l address value = changed l.blocks (block_of s address) (with_word_here s address value (l.blocks (block_of s address)))
 
 loads : (s : Setup) (i : ℕ) (l : Local) (address : ℕ) (allowed : Bool) → IsSetup s → IsNodeOf s i l → i < s.shape.nodes → MayInstruct s l → asked s i l.cpu ≡ next.Access false address 0
     → permits (tag_here s l.blocks address) false ≡ allowed → MakesHere s i l None (event.Instr i)
@@ -170,7 +159,7 @@ stores : (s : Setup) (i : ℕ) (l : Local) (address value : ℕ) (allowed : Bool
     → permits (tag_here s l.blocks address) true ≡ allowed → MakesHere s i l None (event.Instr i)
 stores s i l address value true is h lt may asks allowed =
     instruction s i l (act.Store address value) (finished s i l.cpu 0) mode.Running (stored s l address value) lt refl
-    (completes s i l _ _ _ _ (stored s l address value) may asks, record { allowed = allowed; block = put_here l.blocks (block_of s address) _; others = λ b d. put_other l.blocks (block_of s address) _ b d })
+    (completes s i l _ _ _ _ (stored s l address value) may asks, record { allowed = allowed; block = changed_here l.blocks (block_of s address) _; others = λ b d. changed_other l.blocks (block_of s address) _ b d })
 stores s i l address value false is h lt may asks allowed = refuses s i l true (block_of s address) is h lt may (rw asks (refl, refl, allowed))
 
 adds : (s : Setup) (i : ℕ) (l : Local) (address added : ℕ) (allowed : Bool) → IsSetup s → IsNodeOf s i l → i < s.shape.nodes → MayInstruct s l → asked s i l.cpu ≡ next.Faa address added
@@ -185,7 +174,7 @@ adds s i l address added true is h lt may asks allowed =
       record {
         reads = refl;
         sums = ap (λ n. wrap (value + n)) (sym by);
-        stores = record { allowed = allowed; block = put_here l.blocks (block_of s address) _; others = λ b d. put_other l.blocks (block_of s address) _ b d };
+        stores = record { allowed = allowed; block = changed_here l.blocks (block_of s address) _; others = λ b d. changed_other l.blocks (block_of s address) _ b d };
       },
     )
 adds s i l address added false is h lt may asks allowed = refuses s i l true (block_of s address) is h lt may (rw asks (refl, refl, allowed))
@@ -280,15 +269,15 @@ steps : (s : Setup) (g : World) (i : ℕ) (e : Event) (front : Option Message) (
     → ((f t : ℕ) (c : Chan) → g.wires f t c ≡ taken here.entry front f t c ++ between f t c) → Makes s g e
 steps s g i e front between here takes = record {
   entry = entry;
-  after = record { locals = put g.locals entry.node here.after; wires = λ f t c. between f t c ++ posted (g.next f t c) f t c here.sends; next = λ f t c. g.next f t c + length (filter (on_wire f t c) here.sends) };
+  after = record { locals = changed g.locals entry.node here.after; wires = λ f t c. between f t c ++ posted (g.next f t c) f t c here.sends; next = λ f t c. g.next f t c + length (filter (on_wire f t c) here.sends) };
   tells = here.tells;
   step = record {
     front = front;
     sends = here.sends;
     between = between;
-    local = subst (λ (x : Local). LocalStep s entry.node (g.locals entry.node) front x entry here.sends) (sym (put_here g.locals entry.node here.after))
+    local = subst (λ (x : Local). LocalStep s entry.node (g.locals entry.node) front x entry here.sends) (sym (changed_here g.locals entry.node here.after))
         (subst (λ n. LocalStep s n (g.locals n) front here.after entry here.sends) (sym here.step.node) here.step);
-    others = λ k d. put_other g.locals entry.node here.after k d;
+    others = λ k d. changed_other g.locals entry.node here.after k d;
     takes = takes;
     wires = λ f t c. refl;
     next = λ f t c. refl;

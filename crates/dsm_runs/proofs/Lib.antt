@@ -6,6 +6,7 @@ pub mod OneStep
 pub mod OneEnd
 pub mod Stamps
 pub mod Merging
+pub mod Besides
 pub mod Shape
 pub mod Facts
 pub mod Bounds

@@ -1,4 +1,4 @@
--- The logs of all nodes, merged, are a run.
+-- An entry of one log, as a step of all nodes and wires: what it takes is there.
 use Rattle.std.proofs.Common.{◌≡◌, ◌≢◌, ℕ, ◌+◌, ◌≤◌, length, length-append, List, [], ◌∷◌, ◌++◌, arith, refl, ap, sym, ◌∙◌, subst, append_assoc, inl, inr}
 use Rattle.std.proofs.lemmas.Bool.{cases_eq}
 use Rattle.std.proofs.lemmas.List.{append_cancel_left}
@@ -14,7 +14,7 @@ use Rattle.dsm_runs.specs.Replays.{Course, ReplaysOn}
 use Rattle.dsm_runs.specs.Merges.{joined, Before, IsSorted, is_of}
 use Rattle.dsm_runs.proofs.Lists.{Each-implied, Each-filter, nat_eq_refl, length-numbered}
 use Rattle.dsm_runs.proofs.Sends.{NotEarlier, sends_later, takes_later}
-use Rattle.dsm_runs.proofs.Turns.{AgreesAll, Turn, turn, moved, moved_here, moved_other, nat_eq_other, split_front, taken_early}
+use Rattle.dsm_runs.proofs.Turns.{AgreesAll, Turn, turn, nat_eq_other, split_front, taken_early}
 
 pub of_here : (e : Entry) (es : List Entry) → filter (is_of e.node) (e ∷ es) ≡ e ∷ filter (is_of e.node) es
 of_here e es = rw (nat_eq_refl e.node) refl
@@ -26,10 +26,10 @@ before_at : (a b : Entry) → Before a b → a.stamp ≤ b.stamp
 before_at a b (inl h) = omega arith
 before_at a b (inr h) = omega arith
 
-not_earlier : (e : Entry) (es : List Entry) (k : ℕ) → IsSorted (e ∷ es) → Each (NotEarlier e.stamp) (filter (is_of k) (e ∷ es))
+pub not_earlier : (e : Entry) (es : List Entry) (k : ℕ) → IsSorted (e ∷ es) → Each (NotEarlier e.stamp) (filter (is_of k) (e ∷ es))
 not_earlier e es k h = Each-filter (NotEarlier e.stamp) (is_of k) (e ∷ es) (omega arith, Each-implied (Before e) (NotEarlier e.stamp) es (λ b q. before_at e b q) h.0)
 
-same_end : (a b : ℕ → Course) (w left : Wires) → ((i : ℕ) → a i ≡ b i) → AgreesAll a w → AgreesAll b left → joined a w ≡ joined b left
+pub same_end : (a b : ℕ → Course) (w left : Wires) → ((i : ℕ) → a i ≡ b i) → AgreesAll a w → AgreesAll b left → joined a w ≡ joined b left
 same_end a b w left p before after = λ j. joined (λ i. p i j) (λ f t c. same_wire f t c j)
   where
     same_wire : (f t : ℕ) (c : Chan) → w f t c ≡ left f t c
@@ -37,7 +37,7 @@ same_end a b w left p before after = λ j. joined (λ i. p i j) (λ f t c. same_
         (ap (λ (x : Course). x.took f c ++ w f t c) (sym (p t)) ∙ sym (before f t c) ∙ ap (λ (x : Course). x.sent t c) (p f) ∙ after f t c)
 
 -- what the event of an entry takes is on the wires
-front_is_there : (s : Setup) (e : Entry) (a b : ℕ → Course) (w left : Wires) (mine rest : List Entry) (f t : ℕ) (c : Chan) (a2 : ℕ → Course) (r : Turn s e a a2)
+pub front_is_there : (s : Setup) (e : Entry) (a b : ℕ → Course) (w left : Wires) (mine rest : List Entry) (f t : ℕ) (c : Chan) (a2 : ℕ → Course) (r : Turn s e a a2)
     → ReplaysOn s f (a f) mine (b f) → Each (NotEarlier e.stamp) mine → ReplaysOn s t (a2 t) rest (b t) → AgreesAll a w → AgreesAll b left
     → (more : List Message) × (w f t c ≡ taken e r.front f t c ++ more)
 front_is_there s e a b w left mine rest f t c a2 r sender late receiver before after =
@@ -57,7 +57,7 @@ front_is_there s e a b w left mine rest f t c a2 r sender late receiver before a
     (taken_early s e (a e.node).local (a2 e.node).local r.front r.sends f t c r.local)
 
 -- the turn is a step from the nodes and wires before to those after
-turn_steps : (s : Setup) (e : Entry) (a a2 : ℕ → Course) (w between : Wires) (r : Turn s e a a2) → ((f t : ℕ) (c : Chan) → w f t c ≡ taken e r.front f t c ++ between f t c)
+pub turn_steps : (s : Setup) (e : Entry) (a a2 : ℕ → Course) (w between : Wires) (r : Turn s e a a2) → ((f t : ℕ) (c : Chan) → w f t c ≡ taken e r.front f t c ++ between f t c)
     → Step s (joined a w) e (joined a2 (λ f t c. between f t c ++ posted (length ((a f).sent t c)) f t c r.sends))
 turn_steps s e a a2 w between r takes = record {
   front = r.front;
@@ -70,7 +70,11 @@ turn_steps s e a a2 w between r takes = record {
   next = λ f t c. ap length (r.sent f t c) ∙ length-append ((a f).sent t c) (posted (length ((a f).sent t c)) f t c r.sends) ∙ ap (λ n. length ((a f).sent t c) + n) (length-numbered (length ((a f).sent t c)) (filter (on_wire f t c) r.sends));
 }
 
-turn_agrees : (s : Setup) (e : Entry) (a a2 : ℕ → Course) (w between : Wires) (r : Turn s e a a2) → ((f t : ℕ) (c : Chan) → w f t c ≡ taken e r.front f t c ++ between f t c) → AgreesAll a w
+pub steps_front : (s : Setup) (e : Entry) (a a2 : ℕ → Course) (w between : Wires) (r : Turn s e a a2) (takes : (f t : ℕ) (c : Chan) → w f t c ≡ taken e r.front f t c ++ between f t c) → (turn_steps s e a a2 w between r takes).front ≡ r.front
+unfolding turn_steps
+steps_front s e a a2 w between r takes = refl
+
+pub turn_agrees : (s : Setup) (e : Entry) (a a2 : ℕ → Course) (w between : Wires) (r : Turn s e a a2) → ((f t : ℕ) (c : Chan) → w f t c ≡ taken e r.front f t c ++ between f t c) → AgreesAll a w
     → AgreesAll a2 (λ f t c. between f t c ++ posted (length ((a f).sent t c)) f t c r.sends)
 turn_agrees s e a a2 w between r takes before f t c =
     let put : List Message = posted (length ((a f).sent t c)) f t c r.sends in
@@ -82,24 +86,3 @@ turn_agrees s e a a2 w between r takes before f t c =
     ∙ ap (λ (x : List Message). x ++ (between f t c ++ put)) (sym (r.took f t c))
 
 -- the other nodes' logs go on as they did
-go_on : (s : Setup) (e : Entry) (es : List Entry) (a b : ℕ → Course) (mid : Course) → ReplaysOn s e.node mid (filter (is_of e.node) es) (b e.node)
-    → ((i : ℕ) → ReplaysOn s i (a i) (filter (is_of i) (e ∷ es)) (b i)) → (k : ℕ) → ReplaysOn s k (moved a e.node mid k) (filter (is_of k) es) (b k)
-go_on s e es a b mid here all k = elim (cases_eq k e.node) [
-  | inl q ↦ rw q (subst (λ (x : Course). ReplaysOn s e.node x (filter (is_of e.node) es) (b e.node)) (sym (moved_here a e.node mid)) here)
-  | inr d ↦ subst (λ (x : Course). ReplaysOn s k x (filter (is_of k) es) (b k)) (sym (moved_other a e.node mid k d)) (subst (λ (l : List Entry). ReplaysOn s k (a k) l (b k)) (of_other k e es d) (all k))
-]
-
-pub merging : (s : Setup) (es : List Entry) (a b : ℕ → Course) (w left : Wires) → ((i : ℕ) → ReplaysOn s i (a i) (filter (is_of i) es) (b i)) → AgreesAll a w → AgreesAll b left → IsSorted es
-    → Runs s (joined a w) es (joined b left)
-merging s [] a b w left logs before after sorted = same_end a b w left logs before after
-merging s (e ∷ es) a b w left logs before after sorted =
-    let mine = subst (λ (l : List Entry). ReplaysOn s e.node (a e.node) l (b e.node)) (of_here e es) (logs e.node) in
-    let a2 : ℕ → Course = moved a e.node mine.0 in
-    let r : Turn s e a a2 = turn s e a mine.0 mine.1 in
-    let rest : (k : ℕ) → ReplaysOn s k (a2 k) (filter (is_of k) es) (b k) = go_on s e es a b mine.0 mine.2 logs in
-    let there : (f t : ℕ) (c : Chan) → (more : List Message) × (w f t c ≡ taken e r.front f t c ++ more) =
-    λ f t c. front_is_there s e a b w left (filter (is_of f) (e ∷ es)) (filter (is_of t) es) f t c a2 r (logs f) (not_earlier e es f sorted) (rest t) before after in
-    let between : Wires = λ f t c. (there f t c).0 in
-    let takes : (f t : ℕ) (c : Chan) → w f t c ≡ taken e r.front f t c ++ between f t c = λ f t c. (there f t c).1 in
-    let w2 : Wires = λ f t c. between f t c ++ posted (length ((a f).sent t c)) f t c r.sends in
-    (joined a2 w2, turn_steps s e a a2 w between r takes, merging s es a2 b w2 left rest (turn_agrees s e a a2 w between r takes before) after sorted.1)

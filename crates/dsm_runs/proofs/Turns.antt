@@ -27,15 +27,15 @@ nat_eq_other a b d = go (nat_eq a b) refl
 abbrev pub AgreesAll : (ℕ → Course) → Wires → Type 0
 AgreesAll ends left = (f t : ℕ) (c : Chan) → (ends f).sent t c ≡ (ends t).took f c ++ left f t c
 
--- the courses, with that of node i changed
-abbrev pub moved : (ℕ → Course) → ℕ → Course → ℕ → Course
-moved a i b k = if nat_eq k i then b else a k
+-- what each node has, with that of node i changed
+abbrev pub changed : {X : Type 0} → (ℕ → X) → ℕ → X → ℕ → X
+changed f i x k = if nat_eq k i then x else f k
 
-pub moved_here : (a : ℕ → Course) (i : ℕ) (b : Course) → moved a i b i ≡ b
-moved_here a i b = rw (nat_eq_refl i) refl
+pub changed_here : {X : Type 0} (f : ℕ → X) (i : ℕ) (x : X) → changed f i x i ≡ x
+changed_here f i x = rw (nat_eq_refl i) refl
 
-pub moved_other : (a : ℕ → Course) (i : ℕ) (b : Course) (k : ℕ) → k ≢ i → moved a i b k ≡ a k
-moved_other a i b k d = rw (nat_eq_other k i d) refl
+pub changed_other : {X : Type 0} (f : ℕ → X) (i : ℕ) (x : X) (k : ℕ) → k ≢ i → changed f i x k ≡ f k
+changed_other f i x k d = rw (nat_eq_other k i d) refl
 
 pub taken_elsewhere : (e : Entry) (front : Option Message) (f t : ℕ) (c : Chan) → t ≢ e.node → taken e front f t c ≡ []
 taken_elsewhere e front f t c d = rw (nat_eq_other t e.node d) refl
@@ -56,25 +56,29 @@ pub record Turn (s : Setup) (e : Entry) (a b : ℕ → Course) : Type 0 where
   pub sent : (f t : ℕ) (c : Chan) → (b f).sent t c ≡ (a f).sent t c ++ posted (length ((a f).sent t c)) f t c sends
   pub away : (f t : ℕ) (c : Chan) → f ≢ e.node → filter (on_wire f t c) sends ≡ []
 
-pub turn : (s : Setup) (e : Entry) (a : ℕ → Course) (mid : Course) → ReplaysOne s e.node (a e.node) e mid → Turn s e a (moved a e.node mid)
+pub turn : (s : Setup) (e : Entry) (a : ℕ → Course) (mid : Course) → ReplaysOne s e.node (a e.node) e mid → Turn s e a (changed a e.node mid)
 turn s e a mid r = record {
   front = r.front;
   sends = r.sends;
-  local = subst (λ (x : Course). LocalStep s e.node (a e.node).local r.front x.local e r.sends) (sym (moved_here a e.node mid)) r.local;
-  others = λ k d. moved_other a e.node mid k d;
+  local = subst (λ (x : Course). LocalStep s e.node (a e.node).local r.front x.local e r.sends) (sym (changed_here a e.node mid)) r.local;
+  others = λ k d. changed_other a e.node mid k d;
   took = λ f t c. elim (cases_eq t e.node) [
-    | inl q ↦ rw q (ap (λ (x : Course). x.took f c) (moved_here a e.node mid) ∙ r.took f c)
-    | inr d ↦ ap (λ (x : Course). x.took f c) (moved_other a e.node mid t d) ∙ sym (append-nil ((a t).took f c)) ∙ ap (λ (x : List Message). (a t).took f c ++ x) (sym (taken_elsewhere e r.front f t c d))
+    | inl q ↦ rw q (ap (λ (x : Course). x.took f c) (changed_here a e.node mid) ∙ r.took f c)
+    | inr d ↦ ap (λ (x : Course). x.took f c) (changed_other a e.node mid t d) ∙ sym (append-nil ((a t).took f c)) ∙ ap (λ (x : List Message). (a t).took f c ++ x) (sym (taken_elsewhere e r.front f t c d))
   ];
   sent = λ f t c. elim (cases_eq f e.node) [
-    | inl q ↦ rw q (ap (λ (x : Course). x.sent t c) (moved_here a e.node mid) ∙ r.sent t c)
-    | inr d ↦ ap (λ (x : Course). x.sent t c) (moved_other a e.node mid f d) ∙ sym (append-nil ((a f).sent t c)) ∙ ap (λ (x : List Message). (a f).sent t c ++ numbered (length ((a f).sent t c)) x) (sym (none f t c d))
+    | inl q ↦ rw q (ap (λ (x : Course). x.sent t c) (changed_here a e.node mid) ∙ r.sent t c)
+    | inr d ↦ ap (λ (x : Course). x.sent t c) (changed_other a e.node mid f d) ∙ sym (append-nil ((a f).sent t c)) ∙ ap (λ (x : List Message). (a f).sent t c ++ numbered (length ((a f).sent t c)) x) (sym (none f t c d))
   ];
   away = none;
 }
   where
     none : (f t : ℕ) (c : Chan) → f ≢ e.node → filter (on_wire f t c) r.sends ≡ []
     none f t c d = filter_none e.node f t c e.stamp r.sends d (step_sent s e.node (a e.node).local r.front mid.local e r.sends r.local)
+
+pub turn_front : (s : Setup) (e : Entry) (a : ℕ → Course) (mid : Course) (r : ReplaysOne s e.node (a e.node) e mid) → (turn s e a mid r).front ≡ r.front
+unfolding turn
+turn_front s e a mid r = refl
 
 abbrev pub IsEarly : ℕ → Message → Type 0
 IsEarly k m = m.stamp < k

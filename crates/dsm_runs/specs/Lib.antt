@@ -6,6 +6,7 @@ pub mod Events
 pub mod Worlds
 pub mod Flat
 pub mod Replays
+pub mod Beside
 pub mod Merges
 pub mod Laws
 pub mod Tests

@@ -1,5 +1,5 @@
 -- Messages as they are sent, and which wire they are put on.
-use Rattle.std.specs.Prelude.{ℕ, suc, Bool, true, false, ◌&&◌, nat_eq, length, slice_get, List, [], ◌∷◌, Option, Some, None}
+use Rattle.std.specs.Prelude.{ℕ, suc, ◌+◌, ◌*◌, Bool, true, false, ◌&&◌, nat_eq, length, slice_get, List, [], ◌∷◌, Option, Some, None}
 use Rattle.std.specs.List.{filter}
 use Rattle.tw_base.specs.declared.message.Chan.{Chan}
 use Rattle.tw_base.specs.declared.message.Chan.TheVariants.{Zero, One}
@@ -16,6 +16,14 @@ chan_eq Zero Zero = true
 chan_eq One One = true
 chan_eq Zero One = false
 chan_eq One Zero = false
+
+abbrev pub code : Chan → ℕ
+code Zero = 0
+code One = 1
+
+-- the place of a wire in a row of wires, by the node at its other end and the channel
+abbrev pub place : ℕ → Chan → ℕ
+place t c = 2 * t + code c
 
 abbrev pub declared_chan : Option MessageDecl → Chan
 declared_chan None = Zero
