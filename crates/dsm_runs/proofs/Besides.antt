@@ -1,5 +1,5 @@
 -- Logs with something beside, merged, are a run with it beside. Runs and logs with nothing beside are the case of a unit.
-use Rattle.std.proofs.Common.{◌≡◌, ◌≢◌, ◌∙◌, ℕ, List, [], ◌∷◌, ◌++◌, Option, length, refl, ap, sym, subst, inl, inr}
+use Rattle.std.proofs.Common.{◌≡◌, ◌≢◌, ◌∙◌, ℕ, List, [], ◌∷◌, ◌++◌, Option, length, refl, sym, subst, inl, inr}
 use Rattle.std.proofs.lemmas.Bool.{cases_eq}
 use Rattle.std.specs.List.{filter}
 use Rattle.tw_base.specs.declared.message.Chan.{Chan}
@@ -7,7 +7,7 @@ use Rattle.tw_base.specs.declared.entry.Entry.{Entry}
 use Rattle.tw_base.specs.declared.message.Message.{Message}
 use Rattle.dsm_runs.specs.Setups.{Setup}
 use Rattle.dsm_runs.specs.Messages.{posted}
-use Rattle.dsm_runs.specs.Worlds.{taken, Wires, World, Step, Runs}
+use Rattle.dsm_runs.specs.Worlds.{taken, Wires, World, Runs}
 use Rattle.dsm_runs.specs.Replays.{Course, ReplaysOne, ReplaysOn}
 use Rattle.dsm_runs.specs.Merges.{joined, IsSorted, is_of}
 use Rattle.dsm_runs.specs.Beside.{Moves, MovesToOne, ReplaysBeside, RunsBeside}
@@ -55,9 +55,9 @@ others_go_on : {X : Type 0} (M : Moves X) (s : Setup) (e : Entry) (es : List Ent
     → ((i : ℕ) → ReplaysBeside M s i (a i) (xs i) (filter (is_of i) (e ∷ es)) (b i) (ys i)) → (k : ℕ) → ReplaysBeside M s k (changed a e.node mid k) (changed xs e.node z k) (filter (is_of k) es) (b k) (ys k)
 others_go_on {X} M s e es a b xs ys mid z here all k = elim (cases_eq k e.node) [
   | inl q ↦ rw q (subst (λ (u : X). ReplaysBeside M s e.node (changed a e.node mid e.node) u (filter (is_of e.node) es) (b e.node) (ys e.node)) (sym (changed_here xs e.node z))
-        (subst (λ (x : Course). ReplaysBeside M s e.node x z (filter (is_of e.node) es) (b e.node) (ys e.node)) (sym (changed_here a e.node mid)) here))
+      (subst (λ (x : Course). ReplaysBeside M s e.node x z (filter (is_of e.node) es) (b e.node) (ys e.node)) (sym (changed_here a e.node mid)) here))
   | inr d ↦ subst (λ (u : X). ReplaysBeside M s k (changed a e.node mid k) u (filter (is_of k) es) (b k) (ys k)) (sym (changed_other xs e.node z k d))
-        (subst (λ (x : Course). ReplaysBeside M s k x (xs k) (filter (is_of k) es) (b k) (ys k)) (sym (changed_other a e.node mid k d)) (subst (λ (l : List Entry). ReplaysBeside M s k (a k) (xs k) l (b k) (ys k)) (of_other k e es d) (all k)))
+      (subst (λ (x : Course). ReplaysBeside M s k x (xs k) (filter (is_of k) es) (b k) (ys k)) (sym (changed_other a e.node mid k d)) (subst (λ (l : List Entry). ReplaysBeside M s k (a k) (xs k) l (b k) (ys k)) (of_other k e es d) (all k)))
 ]
 
 pub merging_beside : {X : Type 0} (M : Moves X) (s : Setup) (es : List Entry) (a b : ℕ → Course) (xs ys : ℕ → X) (w left : Wires) → ((i : ℕ) → ReplaysBeside M s i (a i) (xs i) (filter (is_of i) es) (b i) (ys i))
@@ -71,15 +71,18 @@ merging_beside {X} M s (e ∷ es) a b xs ys w left logs before after sorted =
     let rest : (k : ℕ) → ReplaysBeside M s k (a2 k) (zs k) (filter (is_of k) es) (b k) (ys k) = others_go_on M s e es a b xs ys mine.0 mine.1 mine.4 logs in
     let there : (f t : ℕ) (c : Chan) → (more : List Message) × (w f t c ≡ taken e r.front f t c ++ more) =
     λ f t c. front_is_there s e a b w left (filter (is_of f) (e ∷ es)) (filter (is_of t) es) f t c a2 r (log_alone M s f (filter (is_of f) (e ∷ es)) (a f) (b f) (xs f) (ys f) (logs f)) (not_earlier e es f sorted)
-        (log_alone M s t (filter (is_of t) es) (a2 t) (b t) (zs t) (ys t) (rest t)) before after in
+    (log_alone M s t (filter (is_of t) es) (a2 t) (b t) (zs t) (ys t) (rest t)) before after in
     let between : Wires = λ f t c. (there f t c).0 in
     let takes : (f t : ℕ) (c : Chan) → w f t c ≡ taken e r.front f t c ++ between f t c = λ f t c. (there f t c).1 in
     let w2 : Wires = λ f t c. between f t c ++ posted (length ((a f).sent t c)) f t c r.sends in
-    let front : (turn_steps s e a a2 w between r takes).front ≡ mine.2.front = steps_front s e a a2 w between r takes ∙ turn_front s e a mine.0 mine.2 in
-    (joined a2 w2, zs, turn_steps s e a a2 w between r takes,
+    let front : (turn_steps s e a a2 w between r takes).front ≡ mine.2.front = steps_front s e a a2 w between r takes ∙ turn_front s e a mine.0 mine.2 in (
+      joined a2 w2,
+      zs,
+      turn_steps s e a a2 w between r takes,
       subst (λ (o : Option Message). M e.node (a e.node).local o e.act (xs e.node) (zs e.node)) (sym front) (subst (λ (u : X). M e.node (a e.node).local mine.2.front e.act (xs e.node) u) (sym (changed_here xs e.node mine.1)) mine.3),
       (λ k d. changed_other xs e.node mine.1 k d),
-      merging_beside M s es a2 b zs ys w2 left rest (turn_agrees s e a a2 w between r takes before) after sorted.1)
+      merging_beside M s es a2 b zs ys w2 left rest (turn_agrees s e a a2 w between r takes before) after sorted.1,
+    )
 
 -- ---- one end
 

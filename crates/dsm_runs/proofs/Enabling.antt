@@ -1,5 +1,5 @@
 -- In a state of a run an event that is enabled has a step.
-use Rattle.std.proofs.Common.{◌≡◌, ◌≢◌, ℕ, ◌+◌, ◌<◌, length, Bool, true, false, ◌&&◌, nat_eq, if◌then◌else◌, List, [], ◌∷◌, ◌++◌, Option, Some, None, refl, ap, sym, ◌∙◌, subst, eqb-true}
+use Rattle.std.proofs.Common.{◌≡◌, ℕ, ◌+◌, ◌<◌, length, Bool, true, false, ◌&&◌, nat_eq, if◌then◌else◌, List, [], ◌∷◌, ◌++◌, Option, Some, None, refl, ap, sym, ◌∙◌, subst, eqb-true}
 use Rattle.std.specs.Prelude.{max, option_to_list}
 use Rattle.std.specs.List.{filter}
 use Rattle.tw_base.specs.Lists.{Each}
@@ -28,7 +28,7 @@ use Rattle.dsm_runs.specs.Events.{Acts, Completes, Handles, IsRefused, LocalStep
 use Rattle.dsm_runs.specs.Worlds.{MayDeliver, MayRedeliver, Wires, World, event_of, taken, takes_from}
 use Rattle.dsm_runs.specs.Invariants.{EnabledEventsStep, IsDeferredAt, IsNodeOf, IsOnTheWay, Makes}
 use Rattle.dsm_runs.proofs.Asking.{AsksWell, asked_well}
-use Rattle.dsm_runs.proofs.Lists.{and_left, and_right, chan_eq-true, nat_eq_refl}
+use Rattle.dsm_runs.proofs.Lists.{and_left, and_right, chan_eq-true}
 use Rattle.dsm_runs.proofs.RunStates.{arrived, first_waits, refused_within}
 use Rattle.dsm_runs.proofs.Turns.{changed, changed_here, changed_other}
 

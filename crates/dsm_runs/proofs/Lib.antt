@@ -26,3 +26,4 @@ pub mod Failing
 pub mod Repeating
 pub mod FlatBeside
 pub mod Enabling
+pub mod Sharing

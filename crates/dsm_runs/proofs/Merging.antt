@@ -1,6 +1,5 @@
 -- An entry of one log, as a step of all nodes and wires: what it takes is there.
-use Rattle.std.proofs.Common.{◌≡◌, ◌≢◌, ℕ, ◌+◌, ◌≤◌, length, length-append, List, [], ◌∷◌, ◌++◌, arith, refl, ap, sym, ◌∙◌, subst, append_assoc, inl, inr}
-use Rattle.std.proofs.lemmas.Bool.{cases_eq}
+use Rattle.std.proofs.Common.{◌≡◌, ◌≢◌, ℕ, ◌+◌, ◌≤◌, length, length-append, List, ◌∷◌, ◌++◌, arith, refl, ap, sym, ◌∙◌, append_assoc, inl, inr}
 use Rattle.std.proofs.lemmas.List.{append_cancel_left}
 use Rattle.std.specs.List.{filter}
 use Rattle.tw_base.specs.declared.message.Chan.{Chan}
@@ -9,12 +8,12 @@ use Rattle.tw_base.specs.declared.message.Message.{Message}
 use Rattle.dsm_runs.specs.Setups.{Setup}
 use Rattle.tw_base.specs.Lists.{Each}
 use Rattle.dsm_runs.specs.Messages.{on_wire, posted}
-use Rattle.dsm_runs.specs.Worlds.{taken, Wires, Step, Runs}
+use Rattle.dsm_runs.specs.Worlds.{taken, Wires, Step}
 use Rattle.dsm_runs.specs.Replays.{Course, ReplaysOn}
 use Rattle.dsm_runs.specs.Merges.{joined, Before, IsSorted, is_of}
 use Rattle.dsm_runs.proofs.Lists.{Each-implied, Each-filter, nat_eq_refl, length-numbered}
 use Rattle.dsm_runs.proofs.Sends.{NotEarlier, sends_later, takes_later}
-use Rattle.dsm_runs.proofs.Turns.{AgreesAll, Turn, turn, nat_eq_other, split_front, taken_early}
+use Rattle.dsm_runs.proofs.Turns.{AgreesAll, Turn, nat_eq_other, split_front, taken_early}
 
 pub of_here : (e : Entry) (es : List Entry) → filter (is_of e.node) (e ∷ es) ≡ e ∷ filter (is_of e.node) es
 of_here e es = rw (nat_eq_refl e.node) refl

@@ -1,11 +1,13 @@
 -- What is fixed in a run, and what follows from it: addresses, programs, and the blocks at the start.
-use Rattle.std.specs.Prelude.{◌≡◌, ℕ, ◌*◌, ◌/◌, ◌%◌, nat_eq, not, map, find, length, unwrap_or, Bool, true, false, List, [], Option, Some, None}
+use Rattle.std.specs.Prelude.{◌≡◌, ◌⊎◌, ℕ, ◌*◌, ◌/◌, ◌%◌, nat_eq, not, map, find, length, unwrap_or, Bool, true, false, List, [], Option, Some, None}
 use Rattle.std.specs.List.{slice_index_or}
+use Rattle.tw_base.specs.Lists.{Each}
 use Rattle.tw_base.specs.Shape.{Sizes, IsWithinLimits}
 use Rattle.tw_base.specs.declared.value.Tag.{Tag}
 use Rattle.tw_base.specs.declared.value.Tag.TheVariants.{Invalid}
 use Rattle.block_tags.specs.Copies.{Copies, at_start, tag_of, block_words}
 use Rattle.mini_asm.specs.Machine.{next_of, finish_of}
+use Rattle.mini_asm.specs.Programs.{has_faa}
 use Rattle.mini_asm.specs.Run.{IsInit}
 use Rattle.mini_asm.specs.declared.cpu.Cpu.{Cpu}
 use Rattle.mini_asm.specs.declared.cpu.Next.{Next}
@@ -30,6 +32,8 @@ pub record IsSetup (s : Setup) : Type 0 where
   pub init : IsInit (s.shape.words * s.shape.blocks) s.init
   pub programs : length s.programs ≡ s.shape.nodes
   pub accepted : IsAccepted s.protocol
+  pub version : (s.version ≡ 1) ⊎ (s.version ≡ 2)
+  pub plain : s.version ≡ 1 → Each (λ program. has_faa program ≡ false) s.programs  -- fetch-and-add is there from version 2 on
 
 -- ---- addresses
 

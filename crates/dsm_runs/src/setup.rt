@@ -1,4 +1,6 @@
-ghost use Rattle.std.specs.Prelude.{◌≡◌, ◌*◌, length};
+ghost use Rattle.std.specs.Prelude.{◌≡◌, ◌⊎◌, ◌*◌, false, length};
+ghost use Rattle.tw_base.specs.Lists.{Each};
+ghost use Rattle.mini_asm.specs.Programs.{has_faa};
 ghost use Rattle.mini_asm.specs.Run.{IsInit};
 
 use mini_asm::Program;
@@ -35,7 +37,8 @@ impl Model for Setup {
 impl Setup {
     ghost use Rattle.dsm_runs.specs.Setups.{IsSetup};
 
-    /// An address of `init` is below the number of words, and stands there once.
+    /// The version is 1 or 2, and in version 1 no program has a fetch-and-add. An address of `init` is below the number of
+    /// words, and stands there once.
     pub fn new(
         version: u8,
         shape: Shape,
@@ -43,6 +46,8 @@ impl Setup {
         programs: Listed<Program>,
         protocol: Checked,
     ) -> Self
+        requires version { (version ≡ 1) ⊎ (version ≡ 2) }
+        requires plain { version ≡ 1 → Each (λ program. has_faa program ≡ false) programs }
         requires init { IsInit (shape.words * shape.blocks) init }
         requires programs { length programs ≡ shape.nodes }
         ensures value { result ≡ record { version = version; shape = shape; init = init; programs = programs; protocol = protocol } }
