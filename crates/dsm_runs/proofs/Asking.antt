@@ -1,5 +1,5 @@
 -- An instruction asks for words of the memory alone.
-use Rattle.std.proofs.Common.{◌≡◌, ℕ, ◌+◌, ◌<◌, nat_lt, Bool, true, false, if◌then◌else◌, List, Option, Some, None, refl, subst}
+use Rattle.std.proofs.Common.{◌≡◌, ℕ, ◌+◌, nat_lt, Bool, true, false, if◌then◌else◌, List, Option, Some, None, refl, subst}
 use Rattle.std.specs.Prelude.{slice_get, slice_index}
 use Rattle.std.proofs.lemmas.Bool.{ltb-true}
 use Rattle.mini_asm.specs.Machine.{asks, wrap}
@@ -10,16 +10,7 @@ use Rattle.mini_asm.specs.declared.instr.Instr.{Instr}
 use Rattle.mini_asm.specs.declared.instr.Instr.TheVariants.{Li, Mov, Add, Sub, And, Or, Xor, Ld, St, Beq, Bne, Blt, Jmp, Print, Halt, Faa}
 use Rattle.tw_base.specs.declared.entry.Trap.TheVariants.{BadAddress}
 use Rattle.dsm_runs.specs.Setups.{Setup, asked, program_at, size_of}
-
--- an address is within the memory, and a load asks with the value 0
-abbrev pub AsksWell : ℕ → Next → Type 0
-AsksWell size (next.Access true address value) = address < size
-AsksWell size (next.Access false address value) = (address < size) × (value ≡ 0)
-AsksWell size (next.Faa address added) = address < size
-AsksWell size (next.Trap why) = Unit {0}
-AsksWell size next.Halt = Unit {0}
-AsksWell size (next.Print value) = Unit {0}
-AsksWell size next.Step = Unit {0}
+use Rattle.dsm_runs.specs.Shown.{AsksWell}
 
 load_well : (address size : ℕ) (b : Bool) → nat_lt address size ≡ b → AsksWell size (if b then next.Access false address 0 else next.Trap BadAddress)
 load_well address size true h = (ltb-true address size h, refl)

@@ -27,7 +27,8 @@ use Rattle.dsm_runs.specs.Messages.{chan_eq, fault, on_wire, outgoing, posted}
 use Rattle.dsm_runs.specs.Events.{Acts, Completes, Handles, IsRefused, LocalStep, added_by, after_of, failure, freed_if, mode_after, tag_here, with_kept, with_word_here, word_here}
 use Rattle.dsm_runs.specs.Worlds.{MayDeliver, MayRedeliver, Wires, World, event_of, taken, takes_from}
 use Rattle.dsm_runs.specs.Invariants.{EnabledEventsStep, IsDeferredAt, IsNodeOf, IsOnTheWay, Makes}
-use Rattle.dsm_runs.proofs.Asking.{AsksWell, asked_well}
+use Rattle.dsm_runs.specs.Shown.{AsksWell}
+use Rattle.dsm_runs.proofs.Asking.{asked_well}
 use Rattle.dsm_runs.proofs.Lists.{and_left, and_right, chan_eq-true}
 use Rattle.dsm_runs.proofs.RunStates.{arrived, first_waits, refused_within}
 use Rattle.dsm_runs.proofs.Turns.{changed, changed_here, changed_other}

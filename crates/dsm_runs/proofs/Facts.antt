@@ -15,7 +15,8 @@ use Rattle.dsm_runs.specs.Setups.{Setup}
 use Rattle.dsm_runs.specs.Locals.{Local, MayInstruct}
 use Rattle.dsm_runs.specs.Messages.{chan_eq, numbered, on_wire}
 use Rattle.dsm_runs.specs.Events.{CountsHandler, Delivers, Acts, LocalStep}
-use Rattle.dsm_runs.specs.Worlds.{taken, takes_from, World, Wires, Step}
+use Rattle.dsm_runs.specs.Worlds.{taken, takes_from, World, Step}
+use Rattle.dsm_runs.specs.Shown.{TakesFront}
 use Rattle.dsm_runs.proofs.Lists.{nat_eq_refl, chan_eq_refl, chan_eq-true}
 use Rattle.dsm_runs.proofs.Turns.{nat_eq_other}
 use Rattle.dsm_runs.proofs.OneEnd.{taken_here}
@@ -30,11 +31,6 @@ view-numbered {V} p v hp hv k (m ∷ ms) = rw (hp m k) (go (p m) (view-numbered 
     go : (b : Bool) → map v (filter p (numbered (suc k) ms)) ≡ map v (filter p ms) → map v (if b then record m { number = k } ∷ filter p (numbered (suc k) ms) else filter p (numbered (suc k) ms)) ≡ map v (if b then m ∷ filter p ms else filter p ms)
     go true rest = ap (λ (x : V). x ∷ map v (filter p (numbered (suc k) ms))) (hv m k) ∙ ap (λ (l : List V). v m ∷ l) rest
     go false rest = rest
-
--- A delivery takes the front of one wire, and no other message from any wire.
-pub record TakesFront (g : World) (f t : ℕ) (c : Chan) (m : Message) (between : Wires) : Type 0 where
-  pub front : g.wires f t c ≡ m ∷ between f t c
-  pub others : (f2 t2 : ℕ) (c2 : Chan) → (f2 ≢ f) ⊎ (t2 ≢ t) ⊎ (c2 ≢ c) → g.wires f2 t2 c2 ≡ between f2 t2 c2
 
 chan_eq_other : (c d : Chan) → c ≢ d → chan_eq c d ≡ false
 chan_eq_other c d ne = go (chan_eq c d) refl

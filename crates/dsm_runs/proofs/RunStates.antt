@@ -43,7 +43,8 @@ use Rattle.dsm_runs.specs.Events.{Acts, Completes, Handles, IsRefused, SameBlock
 use Rattle.dsm_runs.specs.Worlds.{Runs, World, start, taken, takes_from}
 use Rattle.dsm_runs.specs.Replays.{Course, ReplaysOn, ReplaysOne, begin}
 use Rattle.dsm_runs.specs.Invariants.{EventsKeepNodes, IsBlockAt, IsCourseOf, IsDeferredAt, IsNodeOf, IsOnTheWay, IsPosted, IsRunState, LogsKeepNodes, NodesStartSound, RunsKeepTheirState, StepsKeepTheirState, is_fault}
-use Rattle.dsm_runs.proofs.Asking.{AsksWell, asked_well}
+use Rattle.dsm_runs.specs.Shown.{AsksWell}
+use Rattle.dsm_runs.proofs.Asking.{asked_well}
 use Rattle.dsm_runs.proofs.Handled.{IsNoFault, does_leave}
 use Rattle.dsm_runs.proofs.Lists.{Each-append, Each-filter, Each-numbered, and_left, and_right, chan_eq_refl, nat_eq_refl}
 use Rattle.dsm_runs.proofs.OnWires.{each_behind}

@@ -70,7 +70,7 @@ pub record HasFirst (ws : List Waiting) : Type 0 where
   pub later : List Waiting
   pub takes : IsFirst message earlier later ws
 
-first_is : (ws : List Waiting) → has_eligible ws ≡ true → HasFirst ws
+pub first_is : (ws : List Waiting) → has_eligible ws ≡ true → HasFirst ws
 first_is [] e = absurd (cc)
 first_is (w ∷ ws) e = one w.eligible refl e (first_is ws)
   where

@@ -13,3 +13,4 @@ pub mod Tests
 pub mod Invariants
 pub mod Outcomes
 pub mod Schedules
+pub mod Shown

@@ -3,7 +3,7 @@ ghost use Rattle.tw_base.specs.declared.message.Chan.{Chan};
 ghost use Rattle.tw_base.specs.declared.entry.Entry.{Entry};
 ghost use Rattle.tw_base.specs.Shape.{handler_budget_of};
 ghost use Rattle.mini_asm.specs.Run.{first_words};
-ghost use Rattle.dsm_runs.specs.Setups.{IsSetup, Setup, size_of};
+ghost use Rattle.dsm_runs.specs.Setups.{IsSetup, Setup, asked, size_of};
 ghost use Rattle.dsm_runs.specs.Locals.{first};
 ghost use Rattle.dsm_runs.specs.Events.{word_here};
 ghost use Rattle.tw_base.specs.Lists.{Each};
@@ -12,6 +12,11 @@ ghost use Rattle.dsm_runs.specs.Replays.{Course, ReplaysOne, Replays};
 ghost use Rattle.dsm_runs.specs.Merges.{Agrees, AllReplay, IsJoined, IsMerge, joined, merged};
 ghost use Rattle.dsm_runs.specs.Laws.{IsLog, IsNumbered, IsOn, IsWire};
 ghost use Rattle.dsm_runs.specs.Schedules.{Settles};
+ghost use Rattle.dsm_runs.specs.Shown.{AsksWell, DeliveriesTakeFronts, HandlersHoldNobody, OthersTakeNothing, RefusedBlocksAreWithin};
+ghost use Rattle.dsm_runs.specs.Tests.{is_enabled};
+ghost use Rattle.std.specs.Bool.{Decides};
+ghost use Rattle.mini_asm.specs.declared.cpu.Cpu.{Cpu};
+ghost use Rattle.tw_base.specs.declared.entry.Event.{Event};
 ghost use Rattle.dsm_runs.specs.Flat.{DueStepsAreFlat, IsBeside, flat_start};
 ghost use Rattle.dsm_runs.specs.Invariants.{Bounded, EnabledEventsStep, EventsKeepNodes, FailedNodesAreOver, FailedNodesStay, LogsKeepNodes, NodesStartSound, RunsKeepTheirState, StepsKeepTheirState};
 
@@ -140,4 +145,16 @@ pub fn nodes_stay_sound()
 /// In a state of a run an event that is enabled has a step.
 pub fn enabled_events_step()
     ensures { EnabledEventsStep }
+{}
+
+/// What a step shows: a delivery takes the front of the wire that its entry names, and other events take nothing; an
+/// instruction asks for addresses of the memory alone, so a block that refuses is one of the machine; a handler holds no node
+/// that was not held. And the tests say whether an event is enabled.
+pub fn what_steps_show()
+    ensures deliveries { DeliveriesTakeFronts }
+    ensures others { OthersTakeNothing }
+    ensures asked { (s : Setup) (i : ℕ) (cpu : Cpu) → AsksWell (size_of s) (asked s i cpu) }
+    ensures refused { RefusedBlocksAreWithin }
+    ensures holds { HandlersHoldNobody }
+    ensures enabled { (s : Setup) (g : World) (e : Event) → Decides (is_enabled s g e) (IsEnabled s g e) }
 {}

@@ -17,7 +17,8 @@ pub use laws::{
     due_steps_are_flat, enabled_events_step, events_have_one_step, log_has_one_course,
     logs_are_sound, logs_go_on, logs_have_one_merge, merged_logs_are_a_run,
     nodes_start_with_the_flat_words, nodes_stay_sound, quiet_nodes_end_a_run, run_has_one_end,
-    runs_are_short, runs_go_on, schedules_are_one_run, what_every_run_keeps, wires_are_sound,
+    runs_are_short, runs_go_on, schedules_are_one_run, what_every_run_keeps, what_steps_show,
+    wires_are_sound,
 };
 pub use mode::{Mode, Waiting};
 pub use outcome::Outcome;
