@@ -1,0 +1,4 @@
+pub mod Enumerating
+pub mod Growing
+pub mod Lines
+mod Writing
