@@ -22,7 +22,8 @@ use handler_code::Code;
 use handler_vm::{Around, Cell, Ran};
 use std::alloc::Global;
 use std::test::Fail;
-use teapot_meaning::{Ended, Here, StateVal, fitting_blocks_stay_fit, run, zero};
+use teapot_interpreter::run;
+use teapot_meaning::{Ended, Here, StateVal, fitting_blocks_stay_fit, zero};
 use teapot_tree::{Checked, Param, Protocol, State, ValType};
 use tw_base::{BlockId, Listed, Memory, Message, NodeId, Value};
 

@@ -7,7 +7,8 @@ ghost use Rattle.dsm_runs.specs.Messages.{chan_of, fault, message_of, outgoing};
 
 use crate::{Deferred, Local, Mode, Setup, Waiting};
 use std::alloc::Global;
-use teapot_meaning::{Ended, Here, Kept, Out, run};
+use teapot_interpreter::run;
+use teapot_meaning::{Ended, Here, Kept, Out};
 use teapot_tree::Checked;
 use tw_base::{
     Act, After, BlockId, Chan, End, Entry, Kind, Listed, Memory, Message, NodeId, Value,

@@ -1,11 +1,71 @@
-ghost use Rattle.std.specs.Prelude.{◌≡◌, ◌-◌, ◌^◌, min, [], OnOk, IfOk, position};
+ghost use Rattle.std.specs.Prelude.{◌≡◌, ◌-◌, ◌^◌, min, not, [], OnOk, IfOk, position};
 ghost use Rattle.std.specs.List.{flat_map, fold, list_any};
 ghost use Rattle.std.specs.Str.{bytes_eq};
 ghost use Rattle.teapot_meaning.specs.Names.{error_names, errors_in, errors_of, noted, number_in, state_errors};
 
+use indexmap::IndexSet;
 use std::alloc::Global;
+use std::marker::Model;
 use teapot_tree::{Do, Handler, Protocol, State, Stmt};
 use tw_base::{Listed, Memory, Name};
+
+/// The names of a protocol's errors by their numbers. A name is found in one look.
+#[derive(Drop)]
+pub struct ErrorNames {
+    names: IndexSet<Vec<u8>>,
+}
+
+impl Model for ErrorNames {
+    ghost use Rattle.std.specs.Prelude.{List, ℕ, map};
+
+    ghost Value = { List (List ℕ) };
+
+    ghost view = { λ e. map (λ name. name.items) e.names.keys };
+}
+
+impl ErrorNames {
+    /// Each name once, by its first place in the protocol.
+    #[tactic(auto, unfolding(crate::specs::Names::error_names))]
+    pub fn of(alloc: Global, p: &Protocol) -> Result<Self, Memory>
+        ensures { IfOk result (λ names. names ≡ error_names p.now) }
+    {
+        let all = all_errors(alloc, p.states.items())?;
+        numbered(alloc, all.items())
+    }
+
+    fn new(alloc: Global) -> Self
+        ensures { result ≡ [] }
+    {
+        ErrorNames {
+            names: IndexSet::new(alloc),
+        }
+    }
+
+    /// The number of a name, 0 where it names no error of the protocol.
+    pub fn number(&self, name: &[u8]) -> u32
+        ensures { result ≡ number_in self.now name.now }
+    {
+        match self.place(name) {
+            Some(at) => capped(at),
+            None => 0,
+        }
+    }
+
+    fn place(&self, name: &[u8]) -> Option<usize>
+        ensures { result ≡ position (λ n. bytes_eq n name.now) self.now }
+    {
+        self.names.get_index_of(name)
+    }
+
+    /// Notes a name, and says whether it is new.
+    fn note(&mut self, alloc: Global, name: &[u8]) -> Result<bool, Memory>
+        ensures new { IfOk result (λ is_new. is_new ≡ not (list_any (λ n. bytes_eq n name.now) self.old)) }
+        ensures noted { OnOk result (self.new ≡ noted self.old name.now) }
+    {
+        let (_, is_new) = self.names.insert_full(Vec::from_slice(alloc, name)?)?;
+        Ok(is_new)
+    }
+}
 
 /// The names of a protocol's errors, each once, by its first place in the protocol.
 #[tactic(auto, unfolding(crate::specs::Names::error_names))]
@@ -42,27 +102,25 @@ fn capped(at: usize) -> u32
     }
 }
 
-fn is_in(names: &[Name], name: &[u8]) -> bool
-    ensures { result ≡ list_any (λ n. bytes_eq n name.now) names.now }
+fn numbered(alloc: Global, all: &[Name]) -> Result<ErrorNames, Memory>
+    ensures { IfOk result (λ names. names ≡ fold noted [] all.now) }
 {
-    names.iter().any(|n| n.is(name))
-}
-
-fn note(names: &mut Listed<Name>, name: Name) -> Result<(), Memory>
-    ensures { OnOk result (names.new ≡ noted names.old name) }
-{
-    if !is_in(names.items(), name.bytes()) {
-        names.push(name)?;
+    let mut names = ErrorNames::new(alloc);
+    for name in all {
+        names.note(alloc, name.bytes())?;
     }
-    Ok(())
+    Ok(names)
 }
 
 fn each_once(alloc: Global, all: &[Name]) -> Result<Listed<Name>, Memory>
     ensures { IfOk result (λ names. names ≡ fold noted [] all.now) }
 {
+    let mut seen = ErrorNames::new(alloc);
     let mut names = Listed::new(alloc);
     for name in all {
-        note(&mut names, name.copy(alloc)?)?;
+        if seen.note(alloc, name.bytes())? {
+            names.push(name.copy(alloc)?)?;
+        }
     }
     Ok(names)
 }

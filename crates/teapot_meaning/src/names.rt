@@ -1,8 +1,10 @@
-ghost use Rattle.std.specs.Prelude.{◌≡◌, ◌≤◌, length};
+ghost use Rattle.std.specs.Prelude.{◌≡◌, ◌≤◌, length, slice_get};
 ghost use Rattle.teapot_meaning.specs.Names.{declared, info_number};
+ghost use Rattle.teapot_meaning.specs.Steps.{payload_of};
 ghost use Rattle.teapot_tree.specs.Scopes.{message_number, state_number};
 
 use teapot_tree::Protocol;
+use tw_base::Data;
 
 /// The number of a message, 0 where it is not declared.
 pub fn message_number(p: &Protocol, name: &[u8]) -> u8
@@ -42,4 +44,15 @@ pub fn info_place(p: &Protocol, name: &[u8]) -> Option<usize>
     ensures { result ≡ info_number p.now name.now }
 {
     p.infos.items().iter().position(|i| i.name.is(name))
+}
+
+/// The data of a message of this number: the words, where it carries them.
+#[tactic(auto, unfolding(crate::specs::Steps::payload_of))]
+pub fn payload(p: &Protocol, number: u8, words: &Data) -> Option<Data>
+    ensures { result ≡ payload_of (slice_get p.now.messages number) words.now }
+{
+    match p.messages.get(usize::from(number)) {
+        Some(m) => { if m.carries { Some(*words) } else { None } }
+        None => None,
+    }
 }

@@ -34,9 +34,14 @@ fn note(nodes: &mut Listed<NodeId>, set: NodeSet, node: NodeId) -> Result<(), Me
 }
 
 /// The least node of a set.
-pub fn least_of(alloc: Global, set: NodeSet) -> Result<Option<NodeId>, Memory>
-    ensures { IfOk result (λ node. node ≡ least_of set) }
+pub fn least_of(set: NodeSet) -> Option<NodeId>
+    ensures { result ≡ least_of set }
 {
-    let nodes = nodes_in(alloc, set)?;
-    Ok(nodes.get(0).copied())
+    for k in 0..8 {
+        let least = node(k);
+        if set.has(least) {
+            return Some(least);
+        }
+    }
+    None
 }

@@ -1,6 +1,9 @@
+ghost use Rattle.std.specs.Prelude.{◌≡◌};
+ghost use Rattle.teapot_meaning.specs.Steps.{freed_kept};
+
 use sqlite_items::Boxed;
 use teapot_tree::Stmt;
-use tw_base::{BlockId, Data, End, Kind, Listed, Name, NodeId, Tag, Value};
+use tw_base::{BlockId, Data, End, Kind, Listed, Name, NodeId, Stack, Tag, Value};
 
 /// A variable and its value.
 #[derive(Debug, Drop)]
@@ -58,6 +61,16 @@ pub enum Kept {
     Eligible,
 }
 
+/// What becomes of a message when the block's deferred messages are eligible.
+pub fn free(kept: Kept) -> Kept
+    ensures { result ≡ freed_kept kept }
+{
+    match kept {
+        Kept::Stale => Kept::Eligible,
+        _ => kept,
+    }
+}
+
 /// A handler under way: the block, the variables, the data of the handler's message, and what was done so far.
 #[derive(Debug, Drop)]
 pub struct Running {
@@ -84,6 +97,6 @@ pub struct Ended {
 /// What a statement leads to: the statements that follow, or the end.
 #[derive(Debug, Drop)]
 pub enum Next {
-    On(Listed<Stmt>, Running),
+    On(Stack<Stmt>, Running),
     Over(Ended),
 }

@@ -1,7 +1,8 @@
 use crate::shown::shown;
 use std::alloc::Global;
 use std::test::Fail;
-use teapot_meaning::{Ended, Here, StateVal, is_served, run_in};
+use teapot_interpreter::{is_served, run_in};
+use teapot_meaning::{Ended, Here, StateVal};
 use teapot_parse::parse;
 use teapot_tree::{Protocol, ValType};
 use tw_base::{BlockId, Chan, Data, End, Kind, Listed, Message, NodeId, NodeSet, Tag, Value};

@@ -1,8 +1,8 @@
 use Rattle.std.proofs.Common.{◌≡◌, ◌∙◌, ◌≤◌, length, sym, arith}
 use Rattle.std.proofs.lemmas.Bool.{leb-true}
 use Rattle.teapot_meaning.proofs.Served.{defaults_from, defaults_have, have_defaults}
-use Rattle.teapot_meaning.proofs.interpreter.is_served.Goals as goal
-use Rattle.teapot_meaning.proofs.interpreter.is_served.Goals.{then-len-le64, else-len-le64}
+use Rattle.teapot_interpreter.proofs.interpreter.is_served.Goals as goal
+use Rattle.teapot_interpreter.proofs.interpreter.is_served.Goals.{then-len-le64, else-len-le64}
 
 pub returns-then-len-le64-2 : goal.returns-then-len-le64-2
 returns-then-len-le64-2 c =

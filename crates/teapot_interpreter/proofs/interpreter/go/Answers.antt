@@ -1,7 +1,7 @@
 use Rattle.std.proofs.Common.{sym, ◌∙◌}
 use Rattle.teapot_meaning.specs.Goes.{ends, goes_on}
 use Rattle.teapot_meaning.proofs.Weights.{next_falls}
-use Rattle.teapot_meaning.proofs.interpreter.go.Goals as goal
+use Rattle.teapot_interpreter.proofs.interpreter.go.Goals as goal
 
 pub steps-smaller : goal.steps-smaller
 steps-smaller c =

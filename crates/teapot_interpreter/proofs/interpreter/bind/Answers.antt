@@ -2,8 +2,8 @@ use Rattle.std.proofs.Common.{◌≡◌, ◌∷◌, drop, suc, add-one, sym}
 use Rattle.std.proofs.Math.Seq.{drop-cons}
 use Rattle.std.proofs.lemmas.List.{append-nil, drop_all}
 use Rattle.teapot_meaning.specs.Does.{bound}
-use Rattle.teapot_meaning.proofs.Bounds.{bound_done, bound_more, drop_at, drop_past}
-use Rattle.teapot_meaning.proofs.interpreter.bind.Goals as goal
+use Rattle.teapot_interpreter.proofs.Bounds.{bound_done, bound_more, drop_at, drop_past}
+use Rattle.teapot_interpreter.proofs.interpreter.bind.Goals as goal
 
 pub pairs-preserved : goal.pairs-preserved
 pairs-preserved c =

@@ -1,12 +1,14 @@
 ghost use Rattle.std.specs.Prelude.{◌≡◌};
 ghost use Rattle.std.specs.Option.{option_copied};
+ghost use Rattle.teapot_meaning.specs.Does.{zero_of};
 ghost use Rattle.teapot_meaning.specs.Names.{info_number};
+ghost use Rattle.teapot_meaning.specs.Steps.{node_of, set_of};
 ghost use Rattle.teapot_meaning.specs.Values.{bound_in, count_of, info_at, not_of, one_of, same_value, two_of, value_of, variable};
 
 use crate::names::info_place;
 use crate::state::{Bound, Here, Running};
-use teapot_tree::{Expr, Op, Protocol};
-use tw_base::{NodeSet, Value};
+use teapot_tree::{Expr, Op, Protocol, ValType};
+use tw_base::{NodeId, NodeSet, Value};
 
 /// The value of an expression.
 #[tactic(auto, unfolding(crate::specs::Values::value_of))]
@@ -213,5 +215,37 @@ fn equal(a: Value, b: Value) -> bool
             Value::Set(b) => a == b,
             _ => false,
         },
+    }
+}
+
+/// The value that a variable of a type begins with.
+pub fn zero(ty: ValType) -> Value
+    ensures { result ≡ zero_of ty }
+{
+    match ty {
+        ValType::Int => Value::Int(0),
+        ValType::Bool => Value::Bool(false),
+        ValType::Node => Value::Node(NodeId::new(0).unwrap()),
+        ValType::Set => Value::Set(NodeSet::empty()),
+    }
+}
+
+/// The node, 0 where there is none.
+pub fn node(value: Value) -> NodeId
+    ensures { result ≡ node_of value }
+{
+    match value {
+        Value::Node(n) => n,
+        _ => NodeId::new(0).unwrap(),
+    }
+}
+
+/// The set, empty where there is none.
+pub fn set_of(value: Value) -> NodeSet
+    ensures { result ≡ set_of value }
+{
+    match value {
+        Value::Set(set) => set,
+        _ => NodeSet::empty(),
     }
 }

@@ -1,18 +1,17 @@
 ghost use Rattle.std.specs.Prelude.{◌≡◌, ◌↔◌, [], ◌∷◌, IfOk, IsSome, IsTrue, MatchOption, codes, find, is_some, map, slice_get};
 ghost use Rattle.std.specs.List.{list_all};
 ghost use Rattle.std.specs.Option.{option_copied};
-ghost use Rattle.teapot_meaning.specs.Does.{Does, bound, local_of, started, state_of, vars_of, zero_of};
+ghost use Rattle.teapot_meaning.specs.Does.{Does, bound, local_of, started, state_of, vars_of};
 ghost use Rattle.teapot_meaning.specs.Goes.{Goes};
 ghost use Rattle.teapot_meaning.specs.Handlers.{IsServed, answers, default_of, handler_in};
 ghost use Rattle.teapot_meaning.specs.Steps.{next_of};
 ghost use Rattle.teapot_tree.specs.Rules.{is_default};
 
-use crate::names::message_place;
-use crate::state::{Bound, Ended, Here, Kept, Next, Running};
 use crate::step::{over, step};
 use std::alloc::Global;
-use teapot_tree::{Checked, Handler, Param, Protocol, State, Stmt, Trigger, ValType, copy_stmts};
-use tw_base::{End, Kind, Listed, Memory, Message, Name, NodeId, NodeSet, Value};
+use teapot_meaning::{Bound, Ended, Here, Kept, Next, Running, message_place, zero};
+use teapot_tree::{Checked, Handler, Param, Protocol, State, Stmt, Trigger, copy_stmts};
+use tw_base::{End, Kind, Listed, Memory, Message, Name, NodeId, Stack, Value};
 
 /// Handles a message at a block.
 ///
@@ -73,7 +72,7 @@ fn handle(
 {
     let body = copy_stmts(alloc, handler.body.items())?;
     let running = start(alloc, state, handler, here, m)?;
-    go(alloc, p, body, running)
+    go(alloc, p, Stack::of(body.into_vec()), running)
 }
 
 fn start(
@@ -98,7 +97,7 @@ fn start(
     })
 }
 
-#[tactic(auto, unfolding(crate::specs::Does::vars_of))]
+#[tactic(auto, unfolding(teapot_meaning::specs::Does::vars_of))]
 fn vars(
     alloc: Global,
     state: &State,
@@ -176,19 +175,7 @@ fn locals(alloc: Global, params: &[Param]) -> Result<Listed<Bound>, Memory>
     Ok(vars)
 }
 
-/// The value that a variable of a type begins with.
-pub fn zero(ty: ValType) -> Value
-    ensures { result ≡ zero_of ty }
-{
-    match ty {
-        ValType::Int => Value::Int(0),
-        ValType::Bool => Value::Bool(false),
-        ValType::Node => Value::Node(NodeId::new(0).unwrap()),
-        ValType::Set => Value::Set(NodeSet::empty()),
-    }
-}
-
-#[tactic(auto, unfolding(crate::specs::Handlers::handler_in))]
+#[tactic(auto, unfolding(teapot_meaning::specs::Handlers::handler_in))]
 fn handler<'a>(p: &Protocol, state: &'a State, kind: Kind) -> Option<&'a Handler>
     ensures { option_copied result ≡ handler_in p.now kind state.now }
 {
@@ -233,8 +220,8 @@ fn does_answer(p: &Protocol, kind: Kind, on: &Trigger) -> bool
     }
 }
 
-/// Runs the statements to their end.
-fn go(alloc: Global, p: &Protocol, mut stmts: Listed<Stmt>, mut r: Running) -> Result<Ended, Memory>
+/// Runs the statements to their end, the top one first.
+fn go(alloc: Global, p: &Protocol, mut stmts: Stack<Stmt>, mut r: Running) -> Result<Ended, Memory>
     requires { IsServed p.now }
     ensures { IfOk result (λ end. Goes p.now stmts r end) }
 {
@@ -249,22 +236,12 @@ fn go(alloc: Global, p: &Protocol, mut stmts: Listed<Stmt>, mut r: Running) -> R
     }
 }
 
-fn advance(alloc: Global, p: &Protocol, mut stmts: Listed<Stmt>, r: Running) -> Result<Next, Memory>
+fn advance(alloc: Global, p: &Protocol, mut stmts: Stack<Stmt>, r: Running) -> Result<Next, Memory>
     requires { IsServed p.now }
     ensures { IfOk result (λ next. next ≡ next_of p.now stmts r) }
 {
-    match take_first(&mut stmts) {
+    match stmts.pop() {
         Some(first) => step(alloc, p, first.what, stmts, r),
         None => Ok(Next::Over(over(r, End::Fine))),
-    }
-}
-
-fn take_first(stmts: &mut Listed<Stmt>) -> Option<Stmt>
-    ensures { MatchOption result ((stmts.old ≡ []) × (stmts.new ≡ [])) (λ first. stmts.old ≡ first ∷ stmts.new) }
-{
-    if stmts.is_empty() {
-        None
-    } else {
-        Some(stmts.remove(0))
     }
 }

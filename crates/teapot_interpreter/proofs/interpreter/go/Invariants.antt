@@ -1,7 +1,7 @@
 use Rattle.teapot_meaning.specs.declared.state.Ended.{Ended}
 use Rattle.teapot_meaning.specs.Depth.{work}
 use Rattle.teapot_meaning.specs.Goes.{Goes}
-use Rattle.teapot_meaning.proofs.interpreter.go.Given as goal
+use Rattle.teapot_interpreter.proofs.interpreter.go.Given as goal
 
 -- what is left comes to the end that the whole comes to
 abbrev pub invariant-steps : goal.invariant-steps

@@ -8,22 +8,21 @@ ghost use Rattle.teapot_tree.specs.Scopes.{message_number, state_number};
 ghost use Rattle.teapot_meaning.specs.Values.{value_of};
 ghost use Rattle.teapot_meaning.specs.Steps.{assigned, assigned_info, branch, deferred, each, ended, freed_kept, installed, least_of, led_to, moved, node_of, out_to, payload_of, resumes, sent, sent_all, set_of, suspends, tagged, turns, values_of, woken};
 
-use crate::errors;
-use crate::eval::eval;
-use crate::names::{info_place, message_number, state_number};
-use crate::sets::{least_of, nodes_in};
-use crate::state::{Bound, Cont, Ended, Here, Kept, Next, Out, Running, StateVal};
 use sqlite_items::Boxed;
 use std::alloc::{AllocError, Global};
+use teapot_meaning::{
+    Bound, Cont, Ended, ErrorNames, Kept, Next, Out, Running, StateVal, eval, free, info_place,
+    least_of, message_number, node, nodes_in, payload, set_of, state_number,
+};
 use teapot_tree::{Do, Expr, Protocol, Stmt, copy_stmts};
-use tw_base::{Data, End, Kind, Listed, Memory, Name, NodeId, NodeSet, Tag, Value};
+use tw_base::{Data, End, Kind, Listed, Memory, Name, NodeId, NodeSet, Stack, Tag, Value};
 
 /// What a statement leads to, with the statements that follow it.
 pub fn step(
     alloc: Global,
     p: &Protocol,
     what: Do,
-    rest: Listed<Stmt>,
+    rest: Stack<Stmt>,
     r: Running,
 ) -> Result<Next, Memory>
     requires messages { length p.now.messages ≤ 64 }
@@ -43,12 +42,12 @@ pub fn step(
         Do::Enqueue => Ok(after_enqueue(rest, r)),
         Do::WakeUp => Ok(after_wake_up(rest, r)),
         Do::Error(name) => after_error(alloc, p, r, name),
-        Do::ForEach(x, e, body) => after_for_each(alloc, p, rest, r, x, e, body),
+        Do::ForEach(x, e, body) => after_for_each(p, rest, r, x, e, body),
         Do::Each(x, set, body) => turn(alloc, p, r, x, set, body, rest),
     }
 }
 
-fn after_assign(p: &Protocol, rest: Listed<Stmt>, r: Running, name: Name, e: Expr) -> Next
+fn after_assign(p: &Protocol, rest: Stack<Stmt>, r: Running, name: Name, e: Expr) -> Next
     ensures { result ≡ Next.On rest (assigned p.now r name (value_of p.now r e)) }
 {
     let value = eval(p, &r, &e);
@@ -58,7 +57,7 @@ fn after_assign(p: &Protocol, rest: Listed<Stmt>, r: Running, name: Name, e: Exp
 fn after_if(
     alloc: Global,
     p: &Protocol,
-    rest: Listed<Stmt>,
+    rest: Stack<Stmt>,
     r: Running,
     e: Expr,
     first: Listed<Stmt>,
@@ -67,15 +66,14 @@ fn after_if(
     ensures { IfOk result (λ next. next ≡ Next.On (branch (value_of p.now r e) first second ++ rest) r) }
 {
     let value = eval(p, &r, &e);
-    let mut stmts = choose(alloc, value, first, second);
-    stmts.append(rest)?;
-    Ok(Next::On(stmts, r))
+    let stmts = choose(alloc, value, first, second);
+    Ok(Next::On(put_before(stmts, rest)?, r))
 }
 
 fn after_send(
     alloc: Global,
     p: &Protocol,
-    rest: Listed<Stmt>,
+    rest: Stack<Stmt>,
     r: Running,
     to: Expr,
     name: Name,
@@ -94,7 +92,7 @@ fn after_send(
 fn after_send_all(
     alloc: Global,
     p: &Protocol,
-    rest: Listed<Stmt>,
+    rest: Stack<Stmt>,
     r: Running,
     to: Expr,
     name: Name,
@@ -110,7 +108,7 @@ fn after_send_all(
     Ok(Next::On(rest, send_all(alloc, p, r, to, number, args)?))
 }
 
-fn after_set_tag(rest: Listed<Stmt>, r: Running, tag: Tag) -> Next
+fn after_set_tag(rest: Stack<Stmt>, r: Running, tag: Tag) -> Next
     ensures { result ≡ Next.On rest (tagged r tag) }
 {
     Next::On(rest, set_tag(r, tag))
@@ -119,7 +117,7 @@ fn after_set_tag(rest: Listed<Stmt>, r: Running, tag: Tag) -> Next
 fn after_set_state(
     alloc: Global,
     p: &Protocol,
-    rest: Listed<Stmt>,
+    rest: Stack<Stmt>,
     r: Running,
     name: Name,
     args: Listed<Expr>,
@@ -135,7 +133,7 @@ fn after_set_state(
 fn after_suspend(
     alloc: Global,
     p: &Protocol,
-    rest: Listed<Stmt>,
+    rest: Stack<Stmt>,
     r: Running,
     name: Name,
     args: Listed<Expr>,
@@ -148,21 +146,21 @@ fn after_suspend(
     suspend(alloc, r, number, args, rest)
 }
 
-fn after_install(rest: Listed<Stmt>, r: Running) -> Next
+fn after_install(rest: Stack<Stmt>, r: Running) -> Next
     ensures { result ≡ Next.On rest (installed r (unwrap_or r.came r.here.words)) }
 {
     let words = words_left(&r);
     Next::On(rest, set_words(r, words))
 }
 
-fn after_enqueue(rest: Listed<Stmt>, mut r: Running) -> Next
+fn after_enqueue(rest: Stack<Stmt>, mut r: Running) -> Next
     ensures { result ≡ Next.On rest (deferred r) }
 {
     r.kept = Kept::Stale;
     Next::On(rest, r)
 }
 
-fn after_wake_up(rest: Listed<Stmt>, mut r: Running) -> Next
+fn after_wake_up(rest: Stack<Stmt>, mut r: Running) -> Next
     ensures { result ≡ Next.On rest (woken r) }
 {
     r.woke = true;
@@ -177,9 +175,8 @@ fn after_error(alloc: Global, p: &Protocol, r: Running, name: Name) -> Result<Ne
 }
 
 fn after_for_each(
-    alloc: Global,
     p: &Protocol,
-    rest: Listed<Stmt>,
+    mut rest: Stack<Stmt>,
     r: Running,
     x: Name,
     e: Expr,
@@ -188,11 +185,12 @@ fn after_for_each(
     ensures { IfOk result (λ next. next ≡ Next.On (each x (set_of (value_of p.now r e)) body ∷ rest) r) }
 {
     let set = set_of(eval(p, &r, &e));
-    Ok(Next::On(before(alloc, each(x, set, body), rest)?, r))
+    rest.push(each(x, set, body))?;
+    Ok(Next::On(rest, r))
 }
 
 /// The end of a handler.
-#[tactic(auto, unfolding(crate::specs::Steps::ended))]
+#[tactic(auto, unfolding(teapot_meaning::specs::Steps::ended))]
 pub fn over(r: Running, end: End) -> Ended
     ensures { result ≡ ended r end }
 {
@@ -233,7 +231,7 @@ fn eval_each(
     es.iter().map(|e| eval(p, r, e)).collect(alloc)
 }
 
-#[tactic(auto, unfolding(crate::specs::Steps::assigned))]
+#[tactic(auto, unfolding(teapot_meaning::specs::Steps::assigned))]
 fn assign(p: &Protocol, mut r: Running, name: Name, value: Value) -> Running
     ensures { result ≡ assigned p.now r name value }
 {
@@ -267,7 +265,7 @@ fn place(vars: &[Bound], name: &[u8]) -> Option<usize>
     vars.iter().position(|b| b.name.is(name))
 }
 
-#[tactic(auto, unfolding(crate::specs::Steps::branch))]
+#[tactic(auto, unfolding(teapot_meaning::specs::Steps::branch))]
 fn choose(
     alloc: Global,
     value: Value,
@@ -285,7 +283,7 @@ fn choose(
     }
 }
 
-#[tactic(auto, unfolding(crate::specs::Steps::sent))]
+#[tactic(auto, unfolding(teapot_meaning::specs::Steps::sent))]
 fn send(
     p: &Protocol,
     mut r: Running,
@@ -305,38 +303,7 @@ fn send(
     Ok(r)
 }
 
-/// The data of a message of this number: the words, where it carries them.
-#[tactic(auto, unfolding(crate::specs::Steps::payload_of))]
-pub fn payload(p: &Protocol, number: u8, words: &Data) -> Option<Data>
-    ensures { result ≡ payload_of (slice_get p.now.messages number) words.now }
-{
-    match p.messages.get(usize::from(number)) {
-        Some(m) => { if m.carries { Some(*words) } else { None } }
-        None => None,
-    }
-}
-
-/// The node, 0 where there is none.
-pub fn node(value: Value) -> NodeId
-    ensures { result ≡ node_of value }
-{
-    match value {
-        Value::Node(n) => n,
-        _ => NodeId::new(0).unwrap(),
-    }
-}
-
-/// The set, empty where there is none.
-pub fn set_of(value: Value) -> NodeSet
-    ensures { result ≡ set_of value }
-{
-    match value {
-        Value::Set(set) => set,
-        _ => NodeSet::empty(),
-    }
-}
-
-#[tactic(auto, unfolding(crate::specs::Steps::sent_all))]
+#[tactic(auto, unfolding(teapot_meaning::specs::Steps::sent_all))]
 fn send_all(
     alloc: Global,
     p: &Protocol,
@@ -378,8 +345,8 @@ fn outs(
 fn error_number(alloc: Global, p: &Protocol, name: &[u8]) -> Result<u32, Memory>
     ensures { IfOk result (λ number. number ≡ error_number p.now name.now) }
 {
-    let names = errors::error_names(alloc, p)?;
-    Ok(errors::error_number(names.items(), name))
+    let names = ErrorNames::of(alloc, p)?;
+    Ok(names.number(name))
 }
 
 /// A loop on its way.
@@ -392,18 +359,20 @@ fn each(x: Name, set: NodeSet, body: Listed<Stmt>) -> Stmt
     }
 }
 
-/// The statement and those after it.
-fn before(alloc: Global, s: Stmt, rest: Listed<Stmt>) -> Result<Listed<Stmt>, Memory>
-    ensures { IfOk result (λ stmts. stmts ≡ s ∷ rest) }
+/// The statements, and then those of the rest.
+fn put_before(stmts: Listed<Stmt>, rest: Stack<Stmt>) -> Result<Stack<Stmt>, Memory>
+    ensures { IfOk result (λ all. all ≡ stmts ++ rest) }
 {
-    let mut stmts = Listed::new(alloc);
-    stmts.push(s)?;
-    stmts.append(rest)?;
-    Ok(stmts)
+    let mut left = stmts;
+    let mut all = rest;
+    'stmts: while let Some(last) = left.pop() {
+        all.push(last)?;
+    }
+    Ok(all)
 }
 
 /// The body for the least node of the set, and the loop again, or what follows it.
-#[tactic(auto, unfolding(crate::specs::Steps::turns))]
+#[tactic(auto, unfolding(teapot_meaning::specs::Steps::turns))]
 fn turn(
     alloc: Global,
     p: &Protocol,
@@ -411,22 +380,22 @@ fn turn(
     x: Name,
     set: NodeSet,
     body: Listed<Stmt>,
-    rest: Listed<Stmt>,
+    mut rest: Stack<Stmt>,
 ) -> Result<Next, Memory>
     ensures { IfOk result (λ next. next ≡ turns p.now x set body rest r) }
 {
-    match least_of(alloc, set)? {
+    match least_of(set) {
         Some(node) => {
-            let mut stmts = copy_stmts(alloc, body.items())?;
-            let again = each(x.copy(alloc)?, set.without(node), body);
-            stmts.append(before(alloc, again, rest)?)?;
+            let stmts = copy_stmts(alloc, body.items())?;
+            rest.push(each(x.copy(alloc)?, set.without(node), body))?;
+            let stmts = put_before(stmts, rest)?;
             Ok(Next::On(stmts, assign(p, r, x, Value::Node(node))))
         }
         None => Ok(Next::On(rest, r)),
     }
 }
 
-#[tactic(auto, unfolding(crate::specs::Steps::tagged))]
+#[tactic(auto, unfolding(teapot_meaning::specs::Steps::tagged))]
 fn set_tag(mut r: Running, tag: Tag) -> Running
     ensures { result ≡ tagged r tag }
 {
@@ -451,17 +420,7 @@ fn set_words(mut r: Running, words: Data) -> Running
     r
 }
 
-/// What becomes of a message when the block's deferred messages are eligible.
-pub fn free(kept: Kept) -> Kept
-    ensures { result ≡ freed_kept kept }
-{
-    match kept {
-        Kept::Stale => Kept::Eligible,
-        _ => kept,
-    }
-}
-
-#[tactic(auto, unfolding(crate::specs::Steps::moved))]
+#[tactic(auto, unfolding(teapot_meaning::specs::Steps::moved))]
 fn go_to(mut r: Running, state: u8, args: Listed<Value>) -> Running
     ensures { result ≡ moved r state args }
 {
@@ -472,7 +431,7 @@ fn go_to(mut r: Running, state: u8, args: Listed<Value>) -> Running
     r
 }
 
-#[tactic(auto, unfolding(crate::specs::Depth::depth))]
+#[tactic(auto, unfolding(teapot_meaning::specs::Depth::depth))]
 fn is_deep(v: &StateVal, n: u8) -> bool
     ensures { result ≡ nat_le n (depth v.now) }
 {
@@ -485,13 +444,13 @@ fn is_deep(v: &StateVal, n: u8) -> bool
     }
 }
 
-#[tactic(auto, unfolding(crate::specs::Steps::suspends, crate::specs::Steps::ended))]
+#[tactic(auto, unfolding(teapot_meaning::specs::Steps::suspends, teapot_meaning::specs::Steps::ended))]
 fn suspend(
     alloc: Global,
     r: Running,
     number: u8,
     args: Listed<Value>,
-    rest: Listed<Stmt>,
+    rest: Stack<Stmt>,
 ) -> Result<Next, Memory>
     ensures { IfOk result (λ next. next ≡ suspends r number args rest) }
 {
@@ -501,7 +460,7 @@ fn suspend(
     let mut here = r.here;
     let saved = Boxed::new(alloc, here.state)?;
     let kept = Cont {
-        rest,
+        rest: rest.into_listed(),
         vars: r.vars,
         came: r.came,
         saved,
@@ -521,7 +480,7 @@ fn suspend(
     }))
 }
 
-#[tactic(auto, unfolding(crate::specs::Steps::resumes, crate::specs::Steps::ended))]
+#[tactic(auto, unfolding(teapot_meaning::specs::Steps::resumes, teapot_meaning::specs::Steps::ended))]
 fn resume(mut r: Running) -> Next
     ensures { result ≡ resumes r (out-StateVal r.here.state).cont }
 {
@@ -541,7 +500,7 @@ fn resume(mut r: Running) -> Next
             r.came = came;
             r.kept = free(r.kept);
             r.freed = true;
-            Next::On(rest, r)
+            Next::On(Stack::of(rest.into_vec()), r)
         }
         None => {
             here.state = StateVal {

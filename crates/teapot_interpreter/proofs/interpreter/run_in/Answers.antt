@@ -2,7 +2,7 @@ use Rattle.std.proofs.Common.{◌≡◌, None, sym}
 use Rattle.teapot_meaning.specs.Does.{state_of}
 use Rattle.teapot_meaning.specs.Handlers.{HasDefault}
 use Rattle.teapot_meaning.proofs.Handling.{all_at, handler_found, not_both}
-use Rattle.teapot_meaning.proofs.interpreter.run_in.Goals as goal
+use Rattle.teapot_interpreter.proofs.interpreter.run_in.Goals as goal
 
 pub unreachable-requires : goal.unreachable-requires
 unreachable-requires c =
