@@ -93,11 +93,7 @@ fn in_state(
     let mut least = None;
     let handlers = state.handlers.items();
     for handler in handlers {
-        let scope = Scope {
-            protocol,
-            state,
-            handler,
-        };
+        let scope = Scope::new(alloc, protocol, state, handler)?;
         least = lesser(least, handler_line(alloc, &scope, rule)?);
     }
     Ok(least)

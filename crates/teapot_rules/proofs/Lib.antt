@@ -6,6 +6,7 @@ pub mod Follows
 pub mod Lasts
 pub mod Listing
 pub mod Looping
+pub mod Placing
 pub mod Seeing
 pub mod Stepping
 pub mod Firstly

@@ -1,5 +1,5 @@
 -- Names in lists of variables.
-use Rattle.std.proofs.Common.{◌≡◌, Bool, true, false, cond, List, [], ◌∷◌, ◌++◌, map, find, Option, Some, None, is_some, refl, ap, sym, ◌∙◌, subst, slice_get}
+use Rattle.std.proofs.Common.{◌≡◌, Bool, true, false, cond, List, [], ◌∷◌, ◌++◌, map, find, Option, Some, None, is_some, refl, ap, sym, ◌∙◌, subst}
 use Rattle.std.specs.Prelude.{◌&&◌, ◌||◌}
 use Rattle.std.specs.List.{list_all}
 use Rattle.std.proofs.lemmas.List.Folds.{list_all-append}
@@ -13,7 +13,7 @@ use Rattle.std.specs.Str.{bytes_eq}
 use Rattle.tw_base.specs.declared.name.Name.{Name}
 use Rattle.teapot_tree.specs.declared.protocol.Param.{Param}
 use Rattle.teapot_tree.specs.declared.protocol.ValType.{ValType}
-use Rattle.teapot_rules.specs.Names.{among_params, type_in_params, among_names, tail_of, inner, seen_step, all_seen}
+use Rattle.teapot_rules.specs.Names.{among_params, type_in_params, among_names, inner, seen_step, all_seen}
 use Rattle.teapot_tree.specs.Scopes.{Scope, Variable, of_param, typed, variable, is_among, type_among, infos_in, locals_in, assignable, visible, args_of, taken_message}
 
 some-cond : (b : Bool) (x : Variable) (o : Option Variable) → is_some (cond b (Some x) o) ≡ (b || is_some o)
@@ -41,7 +41,7 @@ among_args_is (m ∷ ns) (t ∷ ts) n = some-cond (bytes_eq m n) (record { name 
 
 -- ---- types
 
-type-cond : (b : Bool) (x : Variable) (o : Option Variable) → option_and_then (λ (v : Variable). v.ty) (cond b (Some x) o) ≡ cond b x.ty (option_and_then (λ (v : Variable). v.ty) o)
+pub type-cond : (b : Bool) (x : Variable) (o : Option Variable) → option_and_then (λ (v : Variable). v.ty) (cond b (Some x) o) ≡ cond b x.ty (option_and_then (λ (v : Variable). v.ty) o)
 type-cond true x o = refl
 type-cond false x o = refl
 
@@ -75,14 +75,6 @@ type_first xs ys n e = ap (option_and_then (λ (v : Variable). v.ty)) (found-fir
 
 pub type_past : (xs ys : List Variable) (n : Name) → is_among xs n ≡ false → type_among (xs ++ ys) n ≡ type_among ys n
 type_past xs ys n e = ap (option_and_then (λ (v : Variable). v.ty)) (found-past xs ys n e)
-
-pub typed_here : (m : Name) (ns : List Name) (ts : List ValType) (n : Name) → bytes_eq m n ≡ true → type_among (typed (m ∷ ns) ts) n ≡ slice_get ts 0
-typed_here m ns [] n e = ap (λ b. option_and_then (λ (v : Variable). v.ty) (cond b (Some (record { name = m; ty = None })) (variable (typed ns []) n))) e
-typed_here m ns (t ∷ ts) n e = ap (λ b. option_and_then (λ (v : Variable). v.ty) (cond b (Some (record { name = m; ty = Some t })) (variable (typed ns ts) n))) e
-
-pub typed_past : (m : Name) (ns : List Name) (ts : List ValType) (n : Name) → bytes_eq m n ≡ false → type_among (typed (m ∷ ns) ts) n ≡ type_among (typed ns (tail_of ts)) n
-typed_past m ns [] n e = ap (λ b. option_and_then (λ (v : Variable). v.ty) (cond b (Some (record { name = m; ty = None })) (variable (typed ns []) n))) e
-typed_past m ns (t ∷ ts) n e = ap (λ b. option_and_then (λ (v : Variable). v.ty) (cond b (Some (record { name = m; ty = Some t })) (variable (typed ns ts) n))) e
 
 -- ---- what is visible in a handler
 

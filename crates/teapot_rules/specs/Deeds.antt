@@ -9,7 +9,7 @@ use Rattle.teapot_tree.specs.Bodies.{assign, send, send_all, set_tag, set_state,
 use Rattle.teapot_tree.specs.Paths.{Deed, does, tests, repeats, goes_on, is_enqueue, is_suspend, is_resume}
 use Rattle.teapot_tree.specs.Rules.{uses_undeclared, has_wrong_type, has_wrong_count, drops_cont, resumes_foreign, lacks_data, is_late}
 use Rattle.teapot_tree.specs.Scopes.{Scope}
-use Rattle.teapot_rules.specs.declared.scope.Scope.{Scope as Scoped}
+use Rattle.teapot_rules.specs.declared.handler_scope.Scope.{Scope as Scoped}
 
 abbrev pub scope_of : Scoped → Scope
 scope_of c = record { protocol = c.protocol.now; state = c.state.now; handler = c.handler.now }

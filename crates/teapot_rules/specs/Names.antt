@@ -1,5 +1,5 @@
 -- Names among parameters and arguments.
-use Rattle.std.specs.Prelude.{Bool, true, ◌&&◌, List, [], ◌∷◌, ◌++◌, find, Option}
+use Rattle.std.specs.Prelude.{Bool, true, ◌&&◌, List, ◌++◌, find, Option}
 use Rattle.std.specs.List.{list_any}
 use Rattle.std.specs.Option.{option_map}
 use Rattle.std.specs.Str.{bytes_eq}
@@ -19,10 +19,6 @@ type_in_params ps n = option_map (λ (a : Param). a.ty) (find (λ (a : Param). b
 
 abbrev pub among_names : List Name → Name → Bool
 among_names ns n = list_any (λ m. bytes_eq m n) ns
-
-abbrev pub tail_of : List ValType → List ValType
-tail_of [] = []
-tail_of (t ∷ ts) = ts
 
 abbrev pub seen_step : List Variable → Expr-F Bool → Bool
 seen_step vs (Expr-F.Var n) = is_among vs n

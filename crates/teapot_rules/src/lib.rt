@@ -6,9 +6,11 @@
 
 mod breaks;
 mod fault;
+mod handler_scope;
 mod laws;
 mod lines;
 mod names;
+mod places;
 mod scope;
 mod steps;
 mod types;
@@ -19,11 +21,13 @@ pub use breaks::{
     wrong_starts,
 };
 pub use fault::{Fault, sooner};
+pub use handler_scope::Scope;
 pub use laws::{faults, firsts, one_walk, paths};
 pub use lines::{lesser, line_if};
 pub use names::visible_names;
+pub use places::Names;
 pub use scope::{
-    Scope, assigned_type, assigns, has_local, local_type, message_of, name_type, sees, state_of,
+    assigned_type, assigns, has_local, local_type, message_of, name_type, sees, state_of,
     taken_message,
 };
 pub use steps::{

@@ -2,7 +2,7 @@ ghost use Rattle.std.specs.Prelude.{◌≡◌, ◌++◌, map, IfOk, OnOk};
 ghost use Rattle.teapot_tree.specs.Rules.{visible_names};
 ghost use Rattle.teapot_rules.specs.Deeds.{scope_of};
 
-use crate::scope::Scope;
+use crate::handler_scope::Scope;
 use std::alloc::Global;
 use teapot_tree::Param;
 use tw_base::{Listed, Memory, Name};

@@ -1,18 +1,11 @@
 ghost use Rattle.std.specs.Prelude.{◌≡◌, ◌||◌, ◌&&◌, map, option_copied, slice_get};
 ghost use Rattle.teapot_tree.specs.Scopes.{message_of, state_of, taken_message, typed, args_of, is_among, type_among, locals_in, assignable, visible};
 ghost use Rattle.teapot_rules.specs.Deeds.{scope_of};
-ghost use Rattle.teapot_rules.specs.Names.{among_params, type_in_params, among_names, tail_of, inner};
+ghost use Rattle.teapot_rules.specs.Names.{among_params, type_in_params, among_names, inner};
 
-use teapot_tree::{Handler, MessageDecl, Param, Protocol, State, Trigger, ValType};
+use crate::handler_scope::Scope;
+use teapot_tree::{MessageDecl, Param, Protocol, State, Trigger, ValType};
 use tw_base::Name;
-
-/// A handler, in its state and protocol.
-#[derive(Drop)]
-pub struct Scope<'a> {
-    pub protocol: &'a Protocol,
-    pub state: &'a State,
-    pub handler: &'a Handler,
-}
 
 /// The first message of this name.
 pub fn message_of<'a>(protocol: &'a Protocol, name: &Name) -> Option<&'a MessageDecl>
@@ -64,39 +57,6 @@ fn param_type(params: &[Param], name: &Name) -> Option<ValType>
     }
 }
 
-fn is_arg(args: &[Name], name: &Name) -> bool
-    ensures { result ≡ among_names args.now name.now }
-{
-    args.iter().any(|a| a.is(name.bytes()))
-}
-
-/// All but the first.
-fn tail(types: &[ValType]) -> &[ValType]
-    ensures { result.now ≡ tail_of types.now }
-{
-    match types {
-        [_, rest @ ..] => rest,
-        [] => types,
-    }
-}
-
-/// The type that is declared for the argument of the name.
-#[tactic(auto, using(crate::proofs::Seeing::typed_here, crate::proofs::Seeing::typed_past))]
-fn arg_type(args: &[Name], types: &[ValType], name: &Name) -> Option<ValType>
-    ensures { result ≡ type_among (typed args.now types.now) name.now }
-{
-    let mut args = args;
-    let mut types = types;
-    'left: while let Some((arg, more)) = args.split_first() {
-        if arg.is(name.bytes()) {
-            return types.first().copied();
-        }
-        args = more;
-        types = tail(types);
-    }
-    None
-}
-
 /// The types of the arguments of the message that the handler is for.
 fn taken_types<'a>(scope: &Scope<'a>) -> &'a [ValType]
     ensures { result.now ≡ args_of (taken_message scope.now.protocol.now scope.now.handler.now.on) }
@@ -107,13 +67,34 @@ fn taken_types<'a>(scope: &Scope<'a>) -> &'a [ValType]
     }
 }
 
+/// Whether an argument of the handler has the name.
+fn is_arg(scope: &Scope, name: &Name) -> bool
+    ensures { result ≡ among_names scope.now.handler.now.args name.now }
+{
+    scope.args.position(name).is_some()
+}
+
+fn type_at(types: &[ValType], at: usize) -> Option<ValType>
+    ensures { result ≡ slice_get types.now at }
+{
+    types.get(at).copied()
+}
+
+/// The type that is declared for the handler's first argument of the name.
+fn arg_type(scope: &Scope, name: &Name) -> Option<ValType>
+    ensures { result ≡ type_among (typed scope.now.handler.now.args (args_of (taken_message scope.now.protocol.now scope.now.handler.now.on))) name.now }
+{
+    let at = scope.args.position(name)?;
+    type_at(taken_types(scope), at)
+}
+
 /// Whether a variable of the name is visible in the handler.
 pub fn sees(scope: &Scope, name: &Name) -> bool
     ensures { result ≡ is_among (visible (scope_of scope.now)) name.now }
 {
     let outer = is_param(scope.protocol.infos.items(), name);
     let param = is_param(scope.state.params.items(), name);
-    let arg = is_arg(scope.handler.args.items(), name);
+    let arg = is_arg(scope, name);
     let local = is_param(scope.handler.locals.items(), name);
     outer | (param | (arg | local))
 }
@@ -155,8 +136,8 @@ pub fn assigned_type(scope: &Scope, name: &Name) -> Option<ValType>
 fn inner_type(scope: &Scope, name: &Name) -> Option<ValType>
     ensures { result ≡ type_among (inner (scope_of scope.now)) name.now }
 {
-    if is_arg(scope.handler.args.items(), name) {
-        return arg_type(scope.handler.args.items(), taken_types(scope), name);
+    if is_arg(scope, name) {
+        return arg_type(scope, name);
     }
     param_type(scope.handler.locals.items(), name)
 }

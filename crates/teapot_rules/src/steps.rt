@@ -6,7 +6,8 @@ ghost use Rattle.teapot_tree.specs.Scopes.{message_of, state_of, taken_message, 
 ghost use Rattle.teapot_rules.specs.Deeds.{scope_of, deed_of, comes_first};
 ghost use Rattle.teapot_rules.specs.Names.{all_seen};
 
-use crate::scope::{Scope, assigns, has_local, message_of, state_of, taken_message};
+use crate::handler_scope::Scope;
+use crate::scope::{assigns, has_local, message_of, state_of, taken_message};
 use crate::types::sees_expr;
 use teapot_tree::{Do, Expr, Protocol, Rule};
 use tw_base::Name;

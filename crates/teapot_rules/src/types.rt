@@ -3,7 +3,8 @@ ghost use Rattle.teapot_tree.specs.Scopes.{same_type, is_of, where_of, are_alike
 ghost use Rattle.teapot_rules.specs.Deeds.{scope_of};
 ghost use Rattle.teapot_rules.specs.Names.{all_seen};
 
-use crate::scope::{Scope, name_type, sees};
+use crate::handler_scope::Scope;
+use crate::scope::{name_type, sees};
 use teapot_tree::{Expr, Op, ValType};
 
 fn same_type(a: ValType, b: ValType) -> bool
