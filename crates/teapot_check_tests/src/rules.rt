@@ -9,7 +9,10 @@ use teapot_tree::Rule;
 // with continuation C, has this one from line 23 on and as many more as the first has.
 fn protocol(alloc: Global, profile: &str, body: &str, waiting: &str) -> Result<String, Fail> {
     Ok(format!(in alloc;
-        "Protocol P{profile}\nMessage GO() 0\nMessage DATA(Int, Node) 1 data\nInfo count Int\nInfo who Node\nInfo sharers Set\nInfo flag Bool\nHomeStart H ReadWrite\nCacheStart H Invalid\nState H{{}}\nBegin\nOn GO()\nBegin\n{body}End\nDefault\nBegin\nEnd\nEnd\nState W{{; C}}\nBegin\nOn DATA(x, y)\nBegin\n{waiting}End\nDefault\nBegin\nEnd\nEnd\n"
+        "Protocol P{profile}\nMessage GO() 0\nMessage DATA(Int, Node) 1 data\n\
+         Info count Int\nInfo who Node\nInfo sharers Set\nInfo flag Bool\n\
+         HomeStart H ReadWrite\nCacheStart H Invalid\nState H{{}}\nBegin\nOn GO()\nBegin\n{body}End\n\
+         Default\nBegin\nEnd\nEnd\nState W{{; C}}\nBegin\nOn DATA(x, y)\nBegin\n{waiting}End\nDefault\nBegin\nEnd\nEnd\n"
     )?)
 }
 
@@ -29,7 +32,7 @@ type Row = (
     Option<(u32, Rule)>,
 );
 
-const BODIES: [Row; 73] = [
+const BODIES: [Row; 80] = [
     // what is used is declared and visible
     ("", "count := missing\n", "", Some((14, Rule::Undeclared))),
     ("", "missing := 1\n", "", Some((14, Rule::Undeclared))),
@@ -56,6 +59,8 @@ const BODIES: [Row; 73] = [
         "count := x\nwho := y\n",
         None,
     ),
+    // `end` is no reserved word
+    ("", "Local end Int\nend := count\ncount := end\n", "", None),
     // what is declared once stands once
     ("", "Local count Int\n", "", Some((14, Rule::Twice))),
     (
@@ -83,6 +88,25 @@ const BODIES: [Row; 73] = [
         "Local k Node\nForEach k sharers\nBegin\nEnqueue\nEnd\n",
         "",
         Some((17, Rule::Twice)),
+    ),
+    // a loop goes round again, so what stands in it follows itself, and what is behind it
+    (
+        " 2",
+        "Local k Node\nForEach k sharers\nBegin\nEnqueue\nSuspend(L, W{; L})\nEnd\n",
+        "",
+        Some((17, Rule::Twice)),
+    ),
+    (
+        " 2",
+        "Local k Node\nForEach k sharers\nBegin\nSuspend(L, W{; L})\nIf flag\nBegin\nEnqueue\nEnd\nEnd\n",
+        "",
+        Some((20, Rule::Twice)),
+    ),
+    (
+        " 2",
+        "Local k Node\nForEach k sharers\nBegin\nSuspend(L, W{; L})\nEnd\n",
+        "",
+        None,
     ),
     ("", "Local C Int\n", "Local H Int\n", None),
     // operators, statements and arguments take values of their types
@@ -137,6 +161,19 @@ const BODIES: [Row; 73] = [
         "flag := (Has(sharers, self) & Not((count <= 7)))\n",
         "",
         None,
+    ),
+    // an argument for which no type is declared is to have some type
+    (
+        "",
+        "Send(src, GO, Not(1))\n",
+        "",
+        Some((14, Rule::WrongType)),
+    ),
+    (
+        "",
+        "Send(src, GO, Not(flag))\n",
+        "",
+        Some((14, Rule::ArgCount)),
     ),
     // as many arguments stand as are declared
     ("", "Send(who, GO, 1)\n", "", Some((14, Rule::ArgCount))),
@@ -273,6 +310,12 @@ const BODIES: [Row; 73] = [
     ),
     (
         "",
+        "Resume(M)\nWakeUp\n",
+        "",
+        Some((14, Rule::ResumeNotLast)),
+    ),
+    (
+        "",
         "Error(Late)\nEnqueue\nEnqueue\n",
         "",
         Some((16, Rule::Twice)),
@@ -299,7 +342,7 @@ const HEAD: &str =
     "Protocol P\nMessage GO() 0\nMessage DATA(Int) 1 data\nHomeStart H ReadWrite\nCacheStart H Invalid\n";
 
 // The lines behind the five of the head, and what is named.
-const STATES: [(&str, Option<(u32, Rule)>); 26] = [
+const STATES: [(&str, Option<(u32, Rule)>); 28] = [
     ("State H{}\nBegin\nDefault\nBegin\nEnd\nEnd\n", None),
     (
         "State H{}\nBegin\nOn NOPE()\nBegin\nEnd\nDefault\nBegin\nEnd\nEnd\n",
@@ -365,6 +408,17 @@ const STATES: [(&str, Option<(u32, Rule)>); 26] = [
         "State H{; C}\nBegin\nDefault\nBegin\nEnd\nEnd\n",
         Some((4, Rule::ArgCount)),
     ),
+    // a name that two states have means the first: without a continuation, or with one
+    (
+        "State H{}\nBegin\nDefault\nBegin\nSuspend(L, W{; L})\nEnd\nEnd\n\
+         State W{}\nBegin\nDefault\nBegin\nEnd\nEnd\nState W{; C}\nBegin\nDefault\nBegin\nEnd\nEnd\n",
+        Some((10, Rule::ArgCount)),
+    ),
+    (
+        "State H{}\nBegin\nDefault\nBegin\nSuspend(L, W{; L})\nEnd\nEnd\n\
+         State W{; C}\nBegin\nDefault\nBegin\nEnd\nEnd\nState W{}\nBegin\nDefault\nBegin\nEnd\nEnd\n",
+        Some((19, Rule::Twice)),
+    ),
     ("State H{}\nBegin\nEnd\n", Some((6, Rule::NoDefault))),
     (
         "State H{}\nBegin\nOn GO()\nBegin\nEnd\nEnd\n",
@@ -413,7 +467,7 @@ fn states_are_checked(rt: HostRuntime) -> Result<(), Fail> {
 const TAIL: &str = "State H{}\nBegin\nDefault\nBegin\nEnd\nEnd\n";
 
 // The lines before the state, and what is named.
-const HEADS: [(&str, Option<(u32, Rule)>); 17] = [
+const HEADS: [(&str, Option<(u32, Rule)>); 18] = [
     (
         "Protocol P\nHomeStart H ReadWrite\nCacheStart H Invalid\n",
         None,
@@ -462,6 +516,10 @@ const HEADS: [(&str, Option<(u32, Rule)>); 17] = [
     (
         "Protocol P\nMessage H() 0\nInfo H Int\nHomeStart H ReadWrite\nCacheStart H Invalid\n",
         None,
+    ),
+    (
+        "Protocol P\nHomeStart H ReadWrite\nCacheStart W Invalid\nState W{a Int}\nBegin\nDefault\nBegin\nEnd\nEnd\n",
+        Some((3, Rule::ArgCount)),
     ),
     (
         "Protocol P 2\nHomeStart H ReadWrite\nCacheStart H Invalid\n",
