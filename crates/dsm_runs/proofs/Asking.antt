@@ -10,7 +10,7 @@ use Rattle.mini_asm.specs.declared.instr.Instr.{Instr}
 use Rattle.mini_asm.specs.declared.instr.Instr.TheVariants.{Li, Mov, Add, Sub, And, Or, Xor, Ld, St, Beq, Bne, Blt, Jmp, Print, Halt, Faa}
 use Rattle.tw_base.specs.declared.entry.Trap.TheVariants.{BadAddress}
 use Rattle.dsm_runs.specs.Setups.{Setup, asked, program_at, size_of}
-use Rattle.dsm_runs.specs.Shown.{AsksWell}
+pub use Rattle.dsm_runs.specs.Shown.{AsksWell}
 
 load_well : (address size : ℕ) (b : Bool) → nat_lt address size ≡ b → AsksWell size (if b then next.Access false address 0 else next.Trap BadAddress)
 load_well address size true h = (ltb-true address size h, refl)

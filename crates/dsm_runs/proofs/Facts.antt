@@ -16,7 +16,7 @@ use Rattle.dsm_runs.specs.Locals.{Local, MayInstruct}
 use Rattle.dsm_runs.specs.Messages.{chan_eq, numbered, on_wire}
 use Rattle.dsm_runs.specs.Events.{CountsHandler, Delivers, Acts, LocalStep}
 use Rattle.dsm_runs.specs.Worlds.{taken, takes_from, World, Step}
-use Rattle.dsm_runs.specs.Shown.{TakesFront}
+pub use Rattle.dsm_runs.specs.Shown.{TakesFront}
 use Rattle.dsm_runs.proofs.Lists.{nat_eq_refl, chan_eq_refl, chan_eq-true}
 use Rattle.dsm_runs.proofs.Turns.{nat_eq_other}
 use Rattle.dsm_runs.proofs.OneEnd.{taken_here}
