@@ -35,7 +35,7 @@ use Rattle.tempest_input.specs.declared.error.Why.TheVariants.{OutOfRange, Repea
 use Rattle.tempest_input.specs.Heads.{head_of}
 use Rattle.tempest_input.specs.Layout.{at_end, body_as, body_in, choice_as, choice_in, field_as, field_in, is_end, laid_out, misfit, next_node, number_in, sections_as, sections_below}
 use Rattle.tempest_input.specs.Numbers.{budget_or, gathered, is_budget, is_within, is_given, has_program, node_in, nodes_of, sizes_of, unless, word_in, words_of}
-use Rattle.tempest_input.specs.Settings.{in_line, in_program, input_of, layout_of, parsed, program_in, settings_of}
+use Rattle.tempest_input.specs.Settings.{in_line, in_program, settings_in, layout_of, parsed, program_in, settings_of}
 use Rattle.tempest_input.proofs.Parts.{err-same}
 
 -- this is not the error
@@ -235,5 +235,5 @@ pub layout-never : (text : List ℕ) → Never Memory (layout_of text)
 unfolding layout_of
 layout-never text = never-then _ _ _ (in_line-never (lexed text) (lexed-never text)) (λ found. laid_out-never found.all found.list)
 
-pub input-never : (text : List ℕ) → Never Memory (input_of text)
+pub input-never : (text : List ℕ) → Never Memory (settings_in text)
 input-never text = never-then _ _ _ (layout-never text) (λ l. settings-never l)

@@ -14,7 +14,7 @@ use Rattle.tempest_input.specs.declared.error.Why.{Why}
 use Rattle.tempest_input.specs.declared.error.Why.TheVariants as whys
 use Rattle.tempest_input.specs.Layout.{laid_out}
 use Rattle.tempest_input.specs.Numbers.{nodes_of, sizes_of, words_of}
-use Rattle.tempest_input.specs.Settings.{Settings, each_below, in_line, input_of, layout_of, parsed, program_for, settings_of}
+use Rattle.tempest_input.specs.Settings.{Settings, each_below, in_line, settings_in, layout_of, parsed, program_for, settings_of}
 use Rattle.tempest_input.specs.Laws.{InputIsNeverBoth, InputIsNoMemory, InputIsValidOrRefused, IsRead, IsRefused, RefusalIsOfAKind, RefusalIsOne, not_ascii, bad_token, misfits, bad_size, bad_word, bad_node, bad_program}
 use Rattle.tempest_input.proofs.NoMemory.{input-never}
 use Rattle.tempest_input.proofs.Parts.{bind-err, bind-ok, ok-same}
@@ -114,20 +114,20 @@ settings-err text line why l read e =
       | inr p ↦ words-err text line why l p.0 read p.1 p.2
     ]
 
-kind-back : (text : List ℕ) (line : ℕ) (why : Why) → input_of text ≡ Err (Refused line why) → IsRefused text line why
+kind-back : (text : List ℕ) (line : ℕ) (why : Why) → settings_in text ≡ Err (Refused line why) → IsRefused text line why
 kind-back text line why e = elim (bind-err (layout_of text) (λ l. settings_of l) (Refused line why) e) as (λ p. IsRefused text line why) [
   | inl p ↦ layout-err text line why p
   | inr p ↦ settings-err text line why p.0 (read-back text p.0 p.1) p.2
 ]
 
-after-read : (text : List ℕ) (l : Layout) (e : InputError) → IsRead text l → (sizes_of l >>= λ sizes. words_step l sizes) ≡ Err e → input_of text ≡ Err e
+after-read : (text : List ℕ) (l : Layout) (e : InputError) → IsRead text l → (sizes_of l >>= λ sizes. words_step l sizes) ≡ Err e → settings_in text ≡ Err e
 after-read text l e read h = ap (λ r. r >>= λ l. settings_of l) (read-on text l read) ∙ in-steps l ∙ h
 
-before-read : (text : List ℕ) (e : InputError) → (in_line (lexed text) >>= λ found. laid_out found.all found.list) ≡ Err e → input_of text ≡ Err e
+before-read : (text : List ℕ) (e : InputError) → (in_line (lexed text) >>= λ found. laid_out found.all found.list) ≡ Err e → settings_in text ≡ Err e
 unfolding layout_of
 before-read text e h = ap (λ r. r >>= λ l. settings_of l) h
 
-kind-on : (text : List ℕ) (line : ℕ) (why : Why) → IsRefused text line why → input_of text ≡ Err (Refused line why)
+kind-on : (text : List ℕ) (line : ℕ) (why : Why) → IsRefused text line why → settings_in text ≡ Err (Refused line why)
 kind-on text line why (not_ascii is kind) = before-read text (Refused line why) (rw (is, kind) refl)
 kind-on text line why (bad_token is kind) = before-read text (Refused line why) (rw (is, kind) refl)
 kind-on text line why (misfits found is e) = before-read text (Refused line why) (rw (is, e) refl)
@@ -157,9 +157,9 @@ never_both text s line why e h = apart s (Refused line why) (sym e ∙ kind-on t
     apart s e h = absurd (cc h)
 
 pub valid_or_refused : InputIsValidOrRefused
-valid_or_refused text = go (input_of text) refl
+valid_or_refused text = go (settings_in text) refl
   where
-    go : (r : Result Settings InputError) → input_of text ≡ r → ((s : Settings) × (input_of text ≡ Ok s)) ⊎ ((line : ℕ) × (why : Why) × IsRefused text line why)
+    go : (r : Result Settings InputError) → settings_in text ≡ r → ((s : Settings) × (settings_in text ≡ Ok s)) ⊎ ((line : ℕ) × (why : Why) × IsRefused text line why)
     go (Ok s) is = inl (s, is)
     go (Err (Refused line why)) is = inr (line, why, kind-back text line why is)
     go (Err Memory) is = absurd (input-never text is)

@@ -23,7 +23,7 @@ use Rattle.tempest_input.specs.declared.error.Why.TheVariants as whys
 use Rattle.tempest_input.specs.Heads.{head_of}
 use Rattle.tempest_input.specs.Layout.{laid_out, misfit}
 use Rattle.tempest_input.specs.Numbers.{nodes_of, sizes_of, words_of}
-use Rattle.tempest_input.specs.Settings.{Settings, input_of, parsed}
+use Rattle.tempest_input.specs.Settings.{Settings, settings_in, parsed}
 
 -- this line is a field of the header
 abbrev pub IsField : Field → Numbered → Line → Type 0
@@ -157,11 +157,11 @@ pub data IsRefused (text : List ℕ) (line : ℕ) (why : Why) : Type 0 where
 
 -- a text sets something up or is refused at a line
 abbrev pub InputIsValidOrRefused : Type 0
-InputIsValidOrRefused = (text : List ℕ) → ((s : Settings) × (input_of text ≡ Ok s)) ⊎ ((line : ℕ) × (why : Why) × IsRefused text line why)
+InputIsValidOrRefused = (text : List ℕ) → ((s : Settings) × (settings_in text ≡ Ok s)) ⊎ ((line : ℕ) × (why : Why) × IsRefused text line why)
 
 -- never both
 abbrev pub InputIsNeverBoth : Type 0
-InputIsNeverBoth = (text : List ℕ) (s : Settings) (line : ℕ) (why : Why) → input_of text ≡ Ok s → ¬ IsRefused text line why
+InputIsNeverBoth = (text : List ℕ) (s : Settings) (line : ℕ) (why : Why) → settings_in text ≡ Ok s → ¬ IsRefused text line why
 
 -- and at one line for one reason
 abbrev pub RefusalIsOne : Type 0
@@ -169,8 +169,8 @@ RefusalIsOne = (text : List ℕ) (line other : ℕ) (why reason : Why) → IsRef
 
 -- the refusal that is found is of one of the kinds, and each of a kind is found
 abbrev pub RefusalIsOfAKind : Type 0
-RefusalIsOfAKind = (text : List ℕ) (line : ℕ) (why : Why) → (input_of text ≡ Err (Refused line why) → IsRefused text line why) × (IsRefused text line why → input_of text ≡ Err (Refused line why))
+RefusalIsOfAKind = (text : List ℕ) (line : ℕ) (why : Why) → (settings_in text ≡ Err (Refused line why) → IsRefused text line why) × (IsRefused text line why → settings_in text ≡ Err (Refused line why))
 
 -- want of memory is no property of a text
 abbrev pub InputIsNoMemory : Type 0
-InputIsNoMemory = (text : List ℕ) → ¬ (input_of text ≡ Err Memory)
+InputIsNoMemory = (text : List ℕ) → ¬ (settings_in text ≡ Err Memory)

@@ -1,6 +1,7 @@
 -- What a text sets up.
-use Rattle.std.specs.Prelude.{◌≡◌, ℕ, zero, suc, ◌*◌, ◌==◌, position, slice_get, unwrap_or, List, [], ◌∷◌, ◌++◌, length, Option, Some, None, Result, Ok, Err}
+use Rattle.std.specs.Prelude.{◌≡◌, ◌⊎◌, ℕ, zero, suc, ◌*◌, ◌==◌, position, slice_get, unwrap_or, false, List, [], ◌∷◌, ◌++◌, length, Option, Some, None, Result, Ok, Err}
 use Rattle.tw_base.specs.Answers.{◌>>=◌}
+use Rattle.tw_base.specs.Lists.{Each}
 use Rattle.tw_base.specs.Shape.{Sizes}
 use Rattle.tw_lex.specs.declared.token.Lexed.{Lexed}
 use Rattle.tw_lex.specs.declared.token.LexError.{LexError}
@@ -11,6 +12,7 @@ use Rattle.mini_asm.specs.declared.instr.Instr.TheVariants.{Halt}
 use Rattle.mini_asm.specs.declared.parse.ProgramError.{ProgramError}
 use Rattle.mini_asm.specs.declared.parse.ProgramError.TheVariants as assembly
 use Rattle.mini_asm.specs.Assembled.{program_of}
+use Rattle.mini_asm.specs.Programs.{has_faa}
 use Rattle.mini_asm.specs.Run.{IsInit}
 use Rattle.tempest_input.specs.declared.layout.Section.{Section}
 use Rattle.tempest_input.specs.declared.layout.Choice.{Choice}
@@ -29,8 +31,10 @@ pub record Settings : Type 0 where
   pub programs : List (List Instr)
   pub protocol : Choice
 
--- a program for each node; each word given is in the memory, and given once
-pub record IsSetup (s : Settings) : Type 0 where
+-- a program for each node; each word given is in the memory, and given once; fetch-and-add is there from version 2 on
+pub record AreSettings (s : Settings) : Type 0 where
+  pub version : (s.version ≡ 1) ⊎ (s.version ≡ 2)
+  pub plain : s.version ≡ 1 → Each (λ program. has_faa program ≡ false) s.programs
   pub programs : length s.programs ≡ s.shape.nodes
   pub init : IsInit (s.shape.words * s.shape.blocks) s.init
 
@@ -91,6 +95,6 @@ in_line (Err lexical.Memory) = Err Memory
 unfoldable pub layout_of : List ℕ → Result Layout InputError
 layout_of text = in_line (lexed text) >>= λ found. laid_out found.all found.list
 
--- what a text sets up, or what it is refused for
-abbrev pub input_of : List ℕ → Result Settings InputError
-input_of text = layout_of text >>= λ l. settings_of l
+-- the settings in a text, or what it is refused for
+abbrev pub settings_in : List ℕ → Result Settings InputError
+settings_in text = layout_of text >>= λ l. settings_of l

@@ -51,9 +51,11 @@ pub enum Why {
 }
 
 /// A text is refused at a line, from 1 on; or there is not enough memory.
-#[derive(Clone, Copy, Debug, PartialEq, Eq)]
+#[derive(Clone, Copy, Debug, PartialEq, Eq, thiserror::Error)]
 pub enum InputError {
+    #[error("line {line} is refused: {why:?}")]
     Refused { line: u32, why: Why },
+    #[error("out of memory")]
     Memory,
 }
 

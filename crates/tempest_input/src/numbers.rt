@@ -1,4 +1,4 @@
-ghost use Rattle.std.specs.Prelude.{◌≡◌, ◌≤◌, OnOk};
+ghost use Rattle.std.specs.Prelude.{◌≡◌, ◌<◌, ◌≤◌, OnOk};
 ghost use Rattle.tw_base.specs.Answers.{Gives};
 ghost use Rattle.tw_base.specs.Shape.{Sizes, IsWithinLimits};
 ghost use Rattle.tempest_input.specs.Layout.{is_memory};
@@ -53,7 +53,7 @@ fn budget_or(blocks: Numbered, budget: Option<Numbered>) -> Numbered
 #[tactic(auto, unfolding(crate::specs::Numbers::sizes_of))]
 pub fn shape_of(layout: &Layout) -> Result<Shape, InputError>
     ensures value { result ≡ sizes_of layout.now }
-    ensures version { OnOk result (layout.now.version.value ≤ 2) }
+    ensures version { OnOk result ((0 < layout.now.version.value) × (layout.now.version.value ≤ 2)) }
 {
     let (version, nodes) = (layout.version, layout.nodes);
     let (words, blocks) = (layout.words, layout.blocks);

@@ -14,9 +14,9 @@ use std::marker::Model;
 use tw_base::{Listed, Memory, Shape};
 use tw_lex::{LexError, Lexed, lines};
 
-/// What a text sets up.
+/// What a text sets up, its protocol as the text chooses it.
 #[derive(Debug, Drop)]
-pub struct Setup {
+pub struct Settings {
     version: u8,
     shape: Shape,
     init: Listed<(u32, u64)>,
@@ -24,18 +24,18 @@ pub struct Setup {
     protocol: Choice,
 }
 
-impl Model for Setup {
-    ghost use Rattle.tempest_input.specs.Settings.{Settings, IsSetup};
+impl Model for Settings {
+    ghost use Rattle.tempest_input.specs.Settings.{Settings as Fixed, AreSettings};
 
-    ghost Value = { Settings };
+    ghost Value = { Fixed };
 
     ghost view = { λ s. record { version = s.version; shape = s.shape; init = s.init; programs = s.programs; protocol = s.protocol } };
 
-    ghost invariant = { λ s. IsSetup (record { version = s.version; shape = s.shape; init = s.init; programs = s.programs; protocol = s.protocol }) };
+    ghost invariant = { λ s. AreSettings (record { version = s.version; shape = s.shape; init = s.init; programs = s.programs; protocol = s.protocol }) };
 }
 
-impl Setup {
-    ghost use Rattle.tempest_input.specs.Settings.{Settings, IsSetup};
+impl Settings {
+    ghost use Rattle.tempest_input.specs.Settings.{AreSettings};
 
     /// The version of the language, 1 or 2.
     pub fn version(&self) -> u8
@@ -46,7 +46,7 @@ impl Setup {
 
     pub fn shape(&self) -> Shape
         ensures value { result ≡ self.now.shape }
-        ensures valid { IsSetup self.now }
+        ensures valid { AreSettings self.now }
     {
         self.shape
     }
@@ -54,7 +54,7 @@ impl Setup {
     /// The words that are given at the start, by address. The others are 0.
     pub fn init(&self) -> &[(u32, u64)]
         ensures value { result.now ≡ self.now.init }
-        ensures valid { IsSetup self.now }
+        ensures valid { AreSettings self.now }
     {
         self.init.items()
     }
@@ -62,7 +62,7 @@ impl Setup {
     /// A program for each node.
     pub fn programs(&self) -> &[Program]
         ensures value { result.now ≡ self.now.programs }
-        ensures valid { IsSetup self.now }
+        ensures valid { AreSettings self.now }
     {
         self.programs.items()
     }
@@ -71,6 +71,23 @@ impl Setup {
         ensures { result.now ≡ self.now.protocol }
     {
         &self.protocol
+    }
+
+    /// The shape, the words that are given at the start, and a program for each node.
+    pub fn into_parts(self) -> (Shape, Listed<(u32, u64)>, Listed<Program>)
+        ensures shape { result.0 ≡ self.shape }
+        ensures init { result.1 ≡ self.init }
+        ensures programs { result.2 ≡ self.programs }
+        ensures valid { AreSettings self }
+    {
+        let Settings {
+            version: _,
+            shape,
+            init,
+            programs,
+            protocol: _,
+        } = self;
+        (shape, init, programs)
     }
 }
 
@@ -181,7 +198,7 @@ fn programs_by_node(
 
 /// What a layout sets up, or its first fault.
 #[tactic(auto, unfolding(crate::specs::Settings::settings_of))]
-pub fn settings_of(alloc: Global, layout: Layout) -> Result<Setup, InputError>
+pub fn settings_of(alloc: Global, layout: Layout) -> Result<Settings, InputError>
     ensures { Gives is_memory (λ s. s) result (settings_of layout) }
 {
     let shape = shape_of(&layout)?;
@@ -190,7 +207,7 @@ pub fn settings_of(alloc: Global, layout: Layout) -> Result<Setup, InputError>
     let version = layout.version.value as u8;
     let programs = parsed(alloc, version, layout.programs.items())?;
     let programs = programs_by_node(alloc, shape.nodes(), &nodes, &programs)?;
-    Ok(Setup {
+    Ok(Settings {
         version,
         shape,
         init: Listed::of(init),
