@@ -78,14 +78,14 @@ forms-found profile (l ∷ ls) fs e =
     let same : fs ≡ record { line = l.number; form = one.0 } ∷ more.0 = sym cc in
     ((l.number, x.0) ∷ rest.0, (refl, x.1, x.3, rest.1), same ∙ ap (λ g. record { line = l.number; form = g } ∷ more.0) (sym x.2) ∙ ap (λ ps. record { line = l.number; form = cut_form x.0 } ∷ ps) rest.2)
 
-nested-ok : (j : Judged) (fs : List Placed) (after : ℕ) (b : Bool) → nests_if j fs after ≡ Ok b → j ≡ Nested
-nested-ok Nested fs after b e = refl
-nested-ok (Bad at) fs after b e = absurd cc
-nested-ok Missing fs after b e = absurd cc
+nested-ok : (j : Judged) (fs : List Placed) (after : ℕ) (u : Unit {0}) → nests_if j fs after ≡ Ok u → j ≡ Nested
+nested-ok Nested fs after u e = refl
+nested-ok (Bad at) fs after u e = absurd cc
+nested-ok Missing fs after u e = absurd cc
 
-within-ok : (o : Option (Many × ℕ)) (b : Bool) → within_if o ≡ Ok b → o ≡ None
-within-ok None b e = refl
-within-ok (Some x) b e = absurd cc
+within-ok : (o : Option (Many × ℕ)) (u : Unit {0}) → within_if o ≡ Ok u → o ≡ None
+within-ok None u e = refl
+within-ok (Some x) u e = absurd cc
 
 nested-is : (ks : List Kind) → judged ks ≡ Nested → IsNested ks
 nested-is ks e = subst (Judges ks) e (judges-is ks)

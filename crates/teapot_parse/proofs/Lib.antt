@@ -15,5 +15,7 @@ pub mod Founds
 pub mod Bounds
 pub mod Words
 pub mod Found
+pub mod Overs
 pub mod Refusals
+pub mod Exact
 pub mod TextLines

@@ -42,16 +42,17 @@ use Rattle.teapot_parse.proofs.Found.{forms-found, over-back, plains}
 use Rattle.teapot_parse.proofs.Founds.{IsRead, IsReadState, tree-found}
 use Rattle.teapot_parse.proofs.Goods.{ExprsAt, flat-each, handlers-each, protocol-parts, exprs-good}
 use Rattle.teapot_parse.proofs.Judging.{judges-is}
+use Rattle.teapot_parse.proofs.Overs.{first_over-first}
 
 err-same : {Y : Type 0} (a b : ParseError) (r : Result Y ParseError) → r ≡ Err a → r ≡ Err b → a ≡ b
 err-same a b r x y = cc
 
 -- ---- lines of no form
 
-has-form : (profile : ℕ) (ts : List Seen) (g : Form Cut) → form_of profile ts ≡ Some g → HasForm profile ts
+pub has-form : (profile : ℕ) (ts : List Seen) (g : Form Cut) → form_of profile ts ≡ Some g → HasForm profile ts
 has-form profile ts g e = let x = subst (λ o. IfSome o (IsForm profile ts)) e (form-found profile ts) in (x.0, x.1, x.3)
 
-no-form : (profile : ℕ) (ts : List Seen) → form_of profile ts ≡ None → HasForm profile ts → ⊥
+pub no-form : (profile : ℕ) (ts : List Seen) → form_of profile ts ≡ None → HasForm profile ts → ⊥
 no-form profile ts e (x, fits, is) = some_none (form_of profile ts) _ e (ap (form_of profile) is ∙ form-again profile x fits)
   where
     some_none : (o : Option (Form Cut)) (g : Form Cut) → o ≡ None → o ≡ Some g → ⊥
@@ -84,7 +85,7 @@ first-bad profile (l ∷ ls) e d = first-step profile l ls (form_of profile (map
 
 -- ---- the other refusals
 
-line-same : (qs : Lines) (at after : ℕ) → line_or after (slice_get (cut_lines qs) at) ≡ line_at after (slice_get qs at)
+pub line-same : (qs : Lines) (at after : ℕ) → line_or after (slice_get (cut_lines qs) at) ≡ line_at after (slice_get qs at)
 line-same qs at after = ap (line_or after) (slice_get-map cut_line qs at) ∙ of_option (slice_get qs at)
   where
     of_option : (o : Option (ℕ × Form Expr)) → line_or after (option_map cut_line o) ≡ line_at after o
@@ -108,7 +109,7 @@ ok_err r q e a b = cc
 few-refuses : (lines : List Line) (after : ℕ) (qs : Lines) → SpellAll (profile_of lines) lines qs → IsNested (map kind_at qs) → (o : Option (Many × ℕ)) → first_over no_counts (cut_lines qs) ≡ o → (e : ParseError)
     → (within_if o >>= λ v. whole (built (cut_lines qs)) after) ≡ Err e → Refuses lines after e
 few-refuses lines after qs spell nested None is e d = let w = whole-of qs after nested is in absurd (ok_err (whole (built (cut_lines qs)) after) w.0 e w.1 d)
-few-refuses lines after qs spell nested (Some over) is e d = subst (Refuses lines after) (err-same (TooMany over.0 over.1) e _ refl d) (qs, spell, nested, is)
+few-refuses lines after qs spell nested (Some over) is e d = subst (Refuses lines after) (err-same (TooMany over.0 over.1) e _ refl d) (qs, spell, nested, first_over-first qs over.0 over.1 is)
 
 nest-refuses : (lines : List Line) (after : ℕ) (qs : Lines) → SpellAll (profile_of lines) lines qs → (j : Judged) → judged (kinds (cut_lines qs)) ≡ j → (e : ParseError)
     → (nests_if j (cut_lines qs) after >>= λ u. within_if (first_over no_counts (cut_lines qs)) >>= λ v. whole (built (cut_lines qs)) after) ≡ Err e → Refuses lines after e

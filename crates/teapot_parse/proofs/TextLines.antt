@@ -17,11 +17,9 @@ use Rattle.tw_lex.specs.declared.token.What.TheVariants as what
 use Rattle.tw_lex.specs.Bytes.{is_allowed, is_blank, is_digit, is_word_start, is_word_byte, code_of}
 use Rattle.tw_lex.specs.Lexemes.{lexeme, mark_at, number_at, number_of, or_single, pair_mark, single_mark, word_at, word_run}
 use Rattle.tw_lex.specs.Lines.{lexed, line_tokens, lines_from, lines_of, or_bad, tokens_from, tokens_of, with_line}
-use Rattle.teapot_tree.specs.declared.protocol.Protocol.{Protocol}
-use Rattle.teapot_tree.specs.Grammar.{IsTree, is_letter_or_digit, starts_word}
-use Rattle.teapot_parse.specs.Given.{AreTextLines, IsGiven, IsTextToken}
+use Rattle.teapot_tree.specs.Grammar.{is_letter_or_digit, starts_word}
+use Rattle.teapot_parse.specs.Given.{AreTextLines, IsTextToken}
 use Rattle.teapot_parse.specs.Laws.{LexedAreTextLines, TextGivesTree}
-use Rattle.teapot_parse.specs.Parsing.{parsed}
 use Rattle.teapot_parse.proofs.Builds.{each-parts}
 use Rattle.teapot_parse.proofs.Found.{parsed-found}
 

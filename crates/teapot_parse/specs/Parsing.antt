@@ -50,19 +50,19 @@ abbrev pub line_or : ℕ → Option Placed → ℕ
 line_or after None = after
 line_or after (Some p) = p.line
 
-abbrev pub nests_if : Judged → List Placed → ℕ → Result Bool ParseError
-nests_if Nested forms after = Ok true
+abbrev pub nests_if : Judged → List Placed → ℕ → Result (Unit {0}) ParseError
+nests_if Nested forms after = Ok tt
 nests_if (Bad at) forms after = Err (BadNest (line_or after (slice_get forms at)))
 nests_if Missing forms after = Err (BadNest after)
 
-abbrev pub nests : List Placed → ℕ → Result Bool ParseError
+abbrev pub nests : List Placed → ℕ → Result (Unit {0}) ParseError
 nests forms after = nests_if (judged (kinds forms)) forms after
 
-abbrev pub within_if : Option (Many × ℕ) → Result Bool ParseError
-within_if None = Ok true
+abbrev pub within_if : Option (Many × ℕ) → Result (Unit {0}) ParseError
+within_if None = Ok tt
 within_if (Some over) = Err (TooMany over.0 over.1)
 
-abbrev pub within : List Placed → Result Bool ParseError
+abbrev pub within : List Placed → Result (Unit {0}) ParseError
 within forms = within_if (first_over no_counts forms)
 
 abbrev pub whole_if : Option Head → Parts → ℕ → Result Protocol ParseError

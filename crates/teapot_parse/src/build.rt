@@ -2,11 +2,10 @@ ghost use Rattle.std.specs.Prelude.{◌≡◌, IfOk, map};
 ghost use Rattle.teapot_parse.specs.Building.{kept, param_at, trigger_of, top_of, below, put_on, if_on, else_on, no_parts, sent, plain, in_body, with_handler, with_line, built};
 
 use crate::placed::Placed;
-use crate::row::Row;
 use std::alloc::Global;
 use teapot_lines::{Answers, Cut, Form, Reach, Typed};
 use teapot_tree::{Do, Expr, Handler, MessageDecl, Param, Start, State, Stmt, Trigger};
-use tw_base::{Listed, Memory, Name};
+use tw_base::{Listed, Memory, Name, Stack};
 
 /// The line that names the protocol.
 #[derive(Debug, Drop)]
@@ -20,7 +19,7 @@ pub struct Head {
 #[derive(Debug, Drop)]
 pub struct Block {
     pub is_else: bool,
-    pub stmts: Row<Stmt>,
+    pub stmts: Stack<Stmt>,
 }
 
 /// What the lines from some line on give: whole declarations, the handlers of a state and the locals of a handler
@@ -28,13 +27,13 @@ pub struct Block {
 #[derive(Debug, Drop)]
 pub struct Parts {
     pub head: Option<Head>,
-    pub messages: Row<MessageDecl>,
-    pub infos: Row<Param>,
-    pub starts: Row<Start>,
-    pub states: Row<State>,
-    pub handlers: Row<Handler>,
-    pub locals: Row<Param>,
-    pub blocks: Row<Block>,
+    pub messages: Stack<MessageDecl>,
+    pub infos: Stack<Param>,
+    pub starts: Stack<Start>,
+    pub states: Stack<State>,
+    pub handlers: Stack<Handler>,
+    pub locals: Stack<Param>,
+    pub blocks: Stack<Block>,
 }
 
 // No line has an expression that is too deep once the limits are checked.
@@ -51,9 +50,9 @@ fn all_kept(alloc: Global, cuts: Listed<Cut>) -> Result<Listed<Expr>, Memory>
     ensures { IfOk result (λ trees. trees ≡ map kept cuts) }
 {
     let mut left = cuts;
-    let mut trees = Row::new(alloc);
+    let mut trees = Stack::new(alloc);
     'cuts: while let Some(cut) = left.pop() {
-        trees.put(kept(cut))?;
+        trees.push(kept(cut))?;
     }
     Ok(trees.into_listed())
 }
@@ -62,9 +61,9 @@ fn params_at(alloc: Global, line: u32, typed: Listed<Typed>) -> Result<Listed<Pa
     ensures { IfOk result (λ params. params ≡ map (param_at line) typed) }
 {
     let mut left = typed;
-    let mut params = Row::new(alloc);
+    let mut params = Stack::new(alloc);
     'typed: while let Some(Typed { name, ty }) = left.pop() {
-        params.put(Param { name, ty, line })?;
+        params.push(Param { name, ty, line })?;
     }
     Ok(params.into_listed())
 }
@@ -80,33 +79,33 @@ fn trigger_of(answers: Answers) -> Trigger
 }
 
 // Takes the innermost block.
-fn take_top(alloc: Global, blocks: &mut Row<Block>) -> Row<Stmt>
+fn take_top(alloc: Global, blocks: &mut Stack<Block>) -> Stack<Stmt>
     ensures top { result ≡ top_of blocks.old }
     ensures rest { blocks.new ≡ below blocks.old }
 {
     match blocks.pop() {
-        None => Row::new(alloc),
+        None => Stack::new(alloc),
         Some(Block { is_else: _, stmts }) => stmts,
     }
 }
 
-fn put_on(alloc: Global, blocks: &mut Row<Block>, line: u32, what: Do) -> Result<(), Memory>
+fn put_on(alloc: Global, blocks: &mut Stack<Block>, line: u32, what: Do) -> Result<(), Memory>
     ensures { IfOk result (λ u. blocks.new ≡ put_on line what blocks.old) }
 {
     let mut block = match blocks.pop() {
         Some(block) => block,
         None => Block {
             is_else: false,
-            stmts: Row::new(alloc),
+            stmts: Stack::new(alloc),
         },
     };
-    block.stmts.put(Stmt { what, line })?;
-    blocks.put(block)
+    block.stmts.push(Stmt { what, line })?;
+    blocks.push(block)
 }
 
 fn if_on(
     alloc: Global,
-    blocks: &mut Row<Block>,
+    blocks: &mut Stack<Block>,
     line: u32,
     test: Expr,
     first: Listed<Stmt>,
@@ -124,19 +123,19 @@ fn if_on(
                     Do::If(test, first, Some(stmts.into_listed())),
                 )
             } else {
-                blocks.put(Block { is_else, stmts })?;
+                blocks.push(Block { is_else, stmts })?;
                 put_on(alloc, blocks, line, Do::If(test, first, None))
             }
         }
     }
 }
 
-fn else_on(blocks: &mut Row<Block>) -> Result<(), Memory>
+fn else_on(blocks: &mut Stack<Block>) -> Result<(), Memory>
     ensures { IfOk result (λ u. blocks.new ≡ else_on blocks.old) }
 {
     match blocks.pop() {
         None => Ok(()),
-        Some(Block { is_else: _, stmts }) => blocks.put(Block {
+        Some(Block { is_else: _, stmts }) => blocks.push(Block {
             is_else: true,
             stmts,
         }),
@@ -148,13 +147,13 @@ fn no_parts(alloc: Global) -> Parts
 {
     Parts {
         head: None,
-        messages: Row::new(alloc),
-        infos: Row::new(alloc),
-        starts: Row::new(alloc),
-        states: Row::new(alloc),
-        handlers: Row::new(alloc),
-        locals: Row::new(alloc),
-        blocks: Row::new(alloc),
+        messages: Stack::new(alloc),
+        infos: Stack::new(alloc),
+        starts: Stack::new(alloc),
+        states: Stack::new(alloc),
+        handlers: Stack::new(alloc),
+        locals: Stack::new(alloc),
+        blocks: Stack::new(alloc),
     }
 }
 
@@ -189,13 +188,18 @@ fn plain(alloc: Global, form: Form<Cut>) -> Result<Option<Do>, Memory>
     Ok(Some(what))
 }
 
-fn in_body(alloc: Global, blocks: &mut Row<Block>, line: u32, form: Form<Cut>) -> Result<(), Memory>
+fn in_body(
+    alloc: Global,
+    blocks: &mut Stack<Block>,
+    line: u32,
+    form: Form<Cut>,
+) -> Result<(), Memory>
     ensures { IfOk result (λ u. blocks.new ≡ in_body line form blocks.old) }
 {
     match form {
-        Form::End => blocks.put(Block {
+        Form::End => blocks.push(Block {
             is_else: false,
-            stmts: Row::new(alloc),
+            stmts: Stack::new(alloc),
         }),
         Form::Else => else_on(blocks),
         Form::If(test) => {
@@ -223,8 +227,8 @@ fn with_handler(
     ensures { IfOk result (λ u. parts.new ≡ with_handler line on args parts.old) }
 {
     let body = take_top(alloc, &mut parts.blocks).into_listed();
-    let locals = std::mem::replace(&mut parts.locals, Row::new(alloc)).into_listed();
-    parts.handlers.put(Handler {
+    let locals = std::mem::replace(&mut parts.locals, Stack::new(alloc)).into_listed();
+    parts.handlers.push(Handler {
         on,
         args,
         locals,
@@ -245,8 +249,8 @@ fn with_state(
 {
     let _block = take_top(alloc, &mut parts.blocks);
     let params = params_at(alloc, line, params)?;
-    let handlers = std::mem::replace(&mut parts.handlers, Row::new(alloc)).into_listed();
-    parts.states.put(State {
+    let handlers = std::mem::replace(&mut parts.handlers, Stack::new(alloc)).into_listed();
+    parts.states.push(State {
         name,
         params,
         cont,
@@ -267,15 +271,15 @@ fn with_line(alloc: Global, parts: &mut Parts, line: u32, form: Form<Cut>) -> Re
             });
             Ok(())
         }
-        Form::Message(name, args, chan, carries) => parts.messages.put(MessageDecl {
+        Form::Message(name, args, chan, carries) => parts.messages.push(MessageDecl {
             name,
             args,
             chan,
             carries,
             line,
         }),
-        Form::Info(name, ty) => parts.infos.put(Param { name, ty, line }),
-        Form::Start(home, state, tag) => parts.starts.put(Start {
+        Form::Info(name, ty) => parts.infos.push(Param { name, ty, line }),
+        Form::Start(home, state, tag) => parts.starts.push(Start {
             home,
             state,
             tag,
@@ -284,7 +288,7 @@ fn with_line(alloc: Global, parts: &mut Parts, line: u32, form: Form<Cut>) -> Re
         Form::State(name, params, cont) => with_state(alloc, parts, line, name, params, cont),
         Form::On(answers, args) => with_handler(alloc, parts, line, trigger_of(answers), args),
         Form::Default => with_handler(alloc, parts, line, Trigger::Default, Listed::new(alloc)),
-        Form::Local(name, ty) => parts.locals.put(Param { name, ty, line }),
+        Form::Local(name, ty) => parts.locals.push(Param { name, ty, line }),
         other => in_body(alloc, &mut parts.blocks, line, other),
     }
 }

@@ -27,9 +27,14 @@ pub fn read_trees_are_given()
 {}
 
 /// What each refusal says: the first line of no form; else the first line up to which the lines are the front of no
-/// list that nests, or that only the end is missing; else the first line at which a count passes its limit.
+/// list that nests, or that only the end is missing; else the first line behind whose front a count passes its limit.
 pub fn refusals_are_first()
     ensures { (lines : List Line) (after : ℕ) (e : ParseError) → parsed lines after ≡ Err e → Refuses lines after e }
+{}
+
+/// Where what a refusal says holds, it is the answer: so at most one refusal fits, and none where a protocol is read.
+pub fn refusals_are_exact()
+    ensures { (lines : List Line) (after : ℕ) (e : ParseError) → Refuses lines after e → parsed lines after ≡ Err e }
 {}
 
 /// The lines that the lexer finds in a text are lines as they stand in a text: each word is a letter or `_` and then

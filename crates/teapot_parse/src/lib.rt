@@ -11,11 +11,10 @@ mod judge;
 mod laws;
 mod placed;
 mod reading;
-mod row;
 
 pub use count::Many;
 pub use laws::{
-    given_lines_are_read, lines_nest, read_trees_are_given, refusals_are_first, texts_give_trees,
-    texts_have_text_lines,
+    given_lines_are_read, lines_nest, read_trees_are_given, refusals_are_exact, refusals_are_first,
+    texts_give_trees, texts_have_text_lines,
 };
 pub use reading::{ParseError, parse};

@@ -14,14 +14,18 @@ use tw_base::Memory;
 use tw_lex::{Line, What};
 
 /// Why lines are no protocol, in the order in which refusals are found.
-#[derive(Clone, Copy, Debug, PartialEq, Eq)]
+#[derive(Clone, Copy, Debug, PartialEq, Eq, thiserror::Error)]
 pub enum ParseError {
     /// The line is of no form.
+    #[error("line {line}: no form of a line")]
     BadLine { line: u32 },
     /// The line cannot stand at its place.
+    #[error("line {line}: a line that cannot stand there")]
     BadNest { line: u32 },
     /// At the line a count passes its limit.
+    #[error("line {line}: too many: {what:?}")]
     TooMany { what: Many, line: u32 },
+    #[error("out of memory")]
     Memory,
 }
 
@@ -95,12 +99,11 @@ fn forms_read(alloc: Global, profile: u8, lines: &[Line]) -> Result<Vec<Placed>,
     Ok(forms)
 }
 
-// Answers whether the lines nest, which is never no.
-fn nests(alloc: Global, forms: &[Placed], after: u32) -> Result<bool, ParseError>
-    ensures { Gives is_memory (λ b. b) result (nests forms.now after) }
+fn check_nesting(alloc: Global, forms: &[Placed], after: u32) -> Result<(), ParseError>
+    ensures { Gives is_memory (λ u. u) result (nests forms.now after) }
 {
     match judge(alloc, forms)? {
-        Judged::Nested => Ok(true),
+        Judged::Nested => Ok(()),
         Judged::Bad(at) => {
             let line = match forms.get(at) {
                 Some(placed) => placed.line,
@@ -112,11 +115,11 @@ fn nests(alloc: Global, forms: &[Placed], after: u32) -> Result<bool, ParseError
     }
 }
 
-fn within(forms: &[Placed]) -> Result<bool, ParseError>
-    ensures { Gives is_memory (λ b. b) result (within forms.now) }
+fn check_limits(forms: &[Placed]) -> Result<(), ParseError>
+    ensures { Gives is_memory (λ u. u) result (within forms.now) }
 {
     match first_over(forms) {
-        None => Ok(true),
+        None => Ok(()),
         Some((what, line)) => Err(ParseError::TooMany { what, line }),
     }
 }
@@ -160,8 +163,8 @@ pub fn parse(alloc: Global, lines: &[Line], after: u32) -> Result<Protocol, Pars
     ensures { Gives is_memory (λ p. p) result (parsed lines.now after) }
 {
     let forms = forms_read(alloc, profile_of(lines), lines)?;
-    let _ = nests(alloc, &forms, after)?;
-    let _ = within(&forms)?;
+    check_nesting(alloc, &forms, after)?;
+    check_limits(&forms)?;
     let parts = built(alloc, forms)?;
     whole(parts, after)
 }
