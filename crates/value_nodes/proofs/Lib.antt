@@ -1,0 +1,4 @@
+mod Constants
+mod Messages
+mod Running
+mod Within
