@@ -3,7 +3,7 @@ ghost use Rattle.tw_base.specs.Answers.{Gives};
 ghost use Rattle.tw_lex.specs.Lines.{lexed};
 ghost use Rattle.mini_asm.specs.Assembled.{program_of};
 ghost use Rattle.tempest_input.specs.Layout.{is_memory};
-ghost use Rattle.tempest_input.specs.Settings.{in_line, in_program, layout_of, parsed, program_at, program_for, each_below, settings_of};
+ghost use Rattle.tempest_input.specs.Settings.{in_line, in_program, layout_of, parsed, program_at, program_for, each_below, settings_in, settings_of};
 
 use crate::error::{InputError, Why};
 use crate::layout::{Choice, Layout, Section, laid_out};
@@ -214,4 +214,13 @@ pub fn settings_of(alloc: Global, layout: Layout) -> Result<Settings, InputError
         programs: Listed::of(programs),
         protocol: layout.protocol,
     })
+}
+
+/// The settings in a text, or its first fault.
+pub fn settings_in(alloc: Global, text: &[u8]) -> Result<Settings, InputError>
+    requires { length text.now + 2 < 2 ^ 32 }
+    ensures { Gives is_memory (λ s. s) result (settings_in text.now) }
+{
+    let layout = layout_of(alloc, text)?;
+    settings_of(alloc, layout)
 }
