@@ -1,7 +1,7 @@
 ghost use Rattle.std.specs.Prelude.{◌≡◌, ◌+◌, ◌≤◌, IfSome, IsOk, IsSome, None, OnErr, OnOk, Some};
 
 use crate::packed::{Medium, Small};
-use crate::packing::pack;
+use crate::packing::class_of;
 use crate::record::{Record, RecordKey};
 use slab::Slab;
 use std::alloc::Global;
@@ -75,15 +75,14 @@ impl Conts {
         ensures spare { self.new.spare + 1 ≡ self.old.spare }
     {
         self.spare -= 1;
-        let packed = pack(&saved.values);
-        match packed.count {
-            0..=4 => RecordKey {
+        match class_of(&saved.values) {
+            0 => RecordKey {
                 class: 0,
-                at: self.small.insert_reserved(Small::of(saved, &packed)),
+                at: self.small.insert_reserved(Small::of(saved)),
             },
-            5..=8 => RecordKey {
+            1 => RecordKey {
                 class: 1,
-                at: self.medium.insert_reserved(Medium::of(saved, &packed)),
+                at: self.medium.insert_reserved(Medium::of(saved)),
             },
             _ => RecordKey {
                 class: 2,
