@@ -7,7 +7,6 @@ mod laws;
 mod lines;
 mod printer;
 mod printing;
-mod text;
 
 pub use laws::printed_trees_are_read_back;
 pub use printing::print;

@@ -4,8 +4,8 @@ ghost use Rattle.teapot_print.specs.Text.{mark_bytes, is_tight, is_opening, spac
 ghost use Rattle.teapot_print.specs.Printing.{put, begun, ended};
 
 use crate::keywords::spelling_of;
-use crate::text::Text;
 use itoa::Buffer;
+use printed_text::Text;
 use std::alloc::Global;
 use teapot_tree::Keyword;
 use tw_base::{Memory, Name};
