@@ -3,7 +3,6 @@ mod Chaining
 mod Entering
 mod Finding
 mod Going
-mod Members
 mod Parting
 mod Saving
 mod Sent

@@ -11,7 +11,7 @@ use Rattle.teapot_meaning.specs.declared.state.Out.{Out}
 use Rattle.teapot_meaning.specs.Steps.{out_to}
 use Rattle.teapot_tree.specs.declared.protocol.Protocol.{Protocol}
 use Rattle.handler_vm.specs.Sending.{IsUnsent, addressed, out_of}
-use Rattle.handler_vm.proofs.Members.{members_in, members_out}
+use Rattle.teapot_meaning.proofs.Members.{members_in, members_out}
 
 -- to one node more
 pub sent_more : (before sent : List Message) (m : Message) (k : ℕ) (s : List Bool) → has s k ≡ true → sent ≡ before ++ map (addressed m) (members_from 0 (take k s))

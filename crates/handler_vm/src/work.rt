@@ -10,9 +10,8 @@ ghost use Rattle.handler_vm.specs.Inside.{HasFew, IsInner, SameBlock, machine_of
 ghost use Rattle.handler_vm.specs.Room.{IsThere};
 
 use crate::running::Running;
-use crate::sets::least_of;
 use handler_code::OpCode;
-use teapot_meaning::{Kept, count, not, one, set_of, two};
+use teapot_meaning::{Kept, count, least_of, not, one, set_of, two};
 use teapot_tree::{Op, Protocol};
 use tw_base::Value;
 

@@ -4,7 +4,7 @@ use Rattle.std.proofs.lemmas.List.{length-map}
 use Rattle.tw_base.specs.NodeSets.{has, members, members_from}
 use Rattle.tw_base.specs.declared.message.Message.{Message}
 use Rattle.handler_vm.specs.Sending.{addressed}
-use Rattle.handler_vm.proofs.Members.{members_room}
+use Rattle.teapot_meaning.proofs.Members.{members_room}
 use Rattle.handler_vm.proofs.Sent.{sent_more, sent_same}
 use Rattle.handler_vm.proofs.sends.send_each.Goals as goal
 use Rattle.handler_vm.proofs.sends.send_each.Goals.{then-has, else-has}
