@@ -1,13 +1,13 @@
 -- Packing and unpacking, a value at a time.
-use Rattle.std.proofs.Common.{◌≡◌, ℕ, zero, suc, ◌+◌, ◌-◌, ◌*◌, ◌/◌, ◌%◌, ◌<◌, ◌≤◌, ◌^◌, ◌==◌, Bool, true, false, not, cond, List, [], ◌∷◌, ◌++◌, length, get_or, set, take, drop, replicate, refl, sym, ap, ◌∙◌, arith, append_assoc, append-nil, length-append, length-set, length-drop, pow-suc}
+use Rattle.std.proofs.Common.{◌≡◌, ℕ, zero, suc, ◌+◌, ◌-◌, ◌*◌, ◌/◌, ◌%◌, ◌<◌, ◌≤◌, ◌^◌, ◌==◌, Bool, true, false, not, cond, List, [], ◌∷◌, ◌++◌, length, get_or, set, take, drop, replicate, refl, sym, ap, ◌∙◌, arith, append_assoc, append-nil, length-drop, pow-suc}
 use Rattle.std.proofs.lemmas.Bool.Decides.{nat_tests}
 use Rattle.std.proofs.lemmas.Nat.{pow_pos}
 use Rattle.std.proofs.Math.Nat.{mul-add-mod_self_left}
-use Rattle.std.proofs.lemmas.List.{drop_all, drop_more, take_all, take_more, take_more_set, take-append-drop, drop-set-lt, length-take-le, length-replicate}
+use Rattle.std.proofs.lemmas.List.{drop_more, take_all, take_more, take_more_set, take-append-drop, drop-set-lt, length-replicate}
 use Rattle.std.proofs.lemmas.List.Sums.{length-filter}
 use Rattle.tw_base.specs.declared.value.Value.{Value}
 use Rattle.tw_base.specs.declared.value.Value.TheVariants.{Int}
-use Rattle.cont_store.specs.Packing.{is_zero, kept, kept_count, mask_of, unpacked, taken, left_after}
+use Rattle.cont_store.specs.Packing.{IsPacked, is_zero, kept, kept_count, mask_of, unpacked, taken, left_after}
 
 pub length-kept : (values : List Value) → length (kept values) ≡ kept_count values
 length-kept values = length-filter (λ v. not (is_zero v)) values
@@ -54,39 +54,26 @@ unpacked-kept (v ∷ vs) more =
 
 -- ---- the loop that packs
 
-pub pack-room : (values room : List Value) (i count : ℕ) (v : Value) → i < length values → v ≡ get_or values i v → not (is_zero v) ≡ true → count ≤ length room → take count room ++ kept (drop i values) ≡ kept values → kept_count values ≤ length room → count < length room
-pack-room values room i count v within is keeps few packed fits =
-    let here : drop i values ≡ v ∷ drop (i + 1) values = drop_more values i v within ∙ ap (λ x. x ∷ drop (i + 1) values) (sym is) in
-    let front : length (take count room) ≡ count = length-take-le count room few in
-    let all : take count room ++ kept (v ∷ drop (i + 1) values) ≡ kept values = rw here at packed in
-    let all' : take count room ++ (v ∷ kept (drop (i + 1) values)) ≡ kept values = rw keeps at all in
-    let long : length (take count room) + suc (length (kept (drop (i + 1) values))) ≡ length (kept values) =
-    sym (length-append (take count room) (v ∷ kept (drop (i + 1) values))) ∙ ap length all' in
-    omega (arith, front, long, length-kept values, fits)
+kept_rest : (v : Value) (vs : List Value) → is_zero v ≡ true → kept (v ∷ vs) ≡ kept vs
+kept_rest v vs test = ap (λ b. cond (not b) (v ∷ kept vs) (kept vs)) test
 
-pub pack-kept : (values room next : List Value) (i count more : ℕ) (v : Value) → i < length values → v ≡ get_or values i v → not (is_zero v) ≡ true → count < length room → next ≡ set room count (get_or values i v) → more ≡ count + 1 → take count room ++ kept (drop i values) ≡ kept values → record { packed : take more next ++ kept (drop (i + 1) values) ≡ kept values; within : more ≤ length next }
-pack-kept values room next i count more v within is keeps few wrote one_more packed =
-    let here : drop i values ≡ v ∷ drop (i + 1) values = drop_more values i v within ∙ ap (λ x. x ∷ drop (i + 1) values) (sym is) in
-    let all : take count room ++ kept (v ∷ drop (i + 1) values) ≡ kept values = rw here at packed in
-    let all' : take count room ++ (v ∷ kept (drop (i + 1) values)) ≡ kept values = rw keeps at all in
-    let set_v : next ≡ set room count v = wrote ∙ ap (set room count) (sym is) in
-    record {
-      packed = rw (one_more, set_v, take_more_set room count v few, append_assoc) all';
-      within = omega (arith, one_more, few, ap length set_v ∙ length-set room count v);
-    }
+count_rest : (v : Value) (vs : List Value) → is_zero v ≡ true → kept_count (v ∷ vs) ≡ kept_count vs
+count_rest v vs test = sym (length-kept (v ∷ vs)) ∙ ap length (kept_rest v vs test) ∙ length-kept vs
 
-pub pack-zero : (values room next : List Value) (i count same : ℕ) (v : Value) → i < length values → v ≡ get_or values i v → not (is_zero v) ≡ false → next ≡ room → same ≡ count → count ≤ length room → take count room ++ kept (drop i values) ≡ kept values → record { packed : take same next ++ kept (drop (i + 1) values) ≡ kept values; within : same ≤ length next }
-pack-zero values room next i count same v within is drops stays stays' few packed =
-    let here : drop i values ≡ v ∷ drop (i + 1) values = drop_more values i v within ∙ ap (λ x. x ∷ drop (i + 1) values) (sym is) in
-    let all : take count room ++ kept (v ∷ drop (i + 1) values) ≡ kept values = rw here at packed in
-    let all' : take count room ++ kept (drop (i + 1) values) ≡ kept values = rw drops at all in
-    record { packed = rw (stays, stays') all'; within = rw (stays, stays') few }
+mask_rest : (v : Value) (vs : List Value) → is_zero v ≡ true → mask_of (v ∷ vs) ≡ mask_of vs * 2
+mask_rest v vs test = ap (λ b. 2 * mask_of vs + cond (not b) 1 0) test ∙ omega arith
 
-pub pack-done : (values room : List Value) (i count : ℕ) → length values ≤ i → count ≤ length room → take count room ++ kept (drop i values) ≡ kept values → take (kept_count values) room ≡ kept values
-pack-done values room i count past few packed =
-    let all : take count room ≡ kept values = sym (append-nil _) ∙ rw (drop_all i values past) at packed in
-    let many : count ≡ kept_count values = sym (length-take-le count room few) ∙ ap length all ∙ length-kept values in
-    rw (← many) all
+-- a value that is Int 0
+pub packed-same : (values places : List Value) (place count mask : ℕ) (v : Value) → IsPacked (drop (place + 1) values) places count mask → length values ≡ 21 → place < 21 → v ≡ get_or values place v → is_zero v ≡ true
+    → IsPacked (drop place values) places count (mask * 2)
+packed-same values places place count mask v p all low is test =
+    let here : drop place values ≡ v ∷ drop (place + 1) values = drop_more values place v (omega (arith, all)) ∙ ap (λ x. x ∷ drop (place + 1) values) (sym is) in
+    rw here (record {
+      long = p.long;
+      kept_last = p.kept_last ∙ sym (kept_rest v (drop (place + 1) values) test);
+      counted = p.counted ∙ sym (count_rest v (drop (place + 1) values) test);
+      masked = ap (λ n. n * 2) p.masked ∙ sym (mask_rest v (drop (place + 1) values) test);
+    })
 
 -- ---- the loop that unpacks
 

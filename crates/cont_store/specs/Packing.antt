@@ -1,5 +1,5 @@
 -- The values of a record's slots, packed: a mask of those that are not Int 0, and these alone.
-use Rattle.std.specs.Prelude.{◌≡◌, ℕ, zero, suc, ◌+◌, ◌*◌, ◌/◌, ◌%◌, ◌==◌, Bool, true, false, not, if◌then◌else◌, List, [], ◌∷◌, filter, count_by, nat_le}
+use Rattle.std.specs.Prelude.{◌≡◌, ℕ, zero, suc, ◌+◌, ◌-◌, ◌*◌, ◌/◌, ◌%◌, ◌==◌, Bool, true, false, not, if◌then◌else◌, List, [], ◌∷◌, filter, count_by, drop, length, nat_le}
 use Rattle.tw_base.specs.declared.value.Value.{Value}
 use Rattle.tw_base.specs.declared.value.Value.TheVariants.{Int}
 
@@ -37,9 +37,12 @@ unpacked zero mask packed = []
 unpacked (suc n) mask packed =
     taken (mask % 2 == 1) packed ∷ unpacked n (mask / 2) (left_after (mask % 2 == 1) packed)
 
--- of the 21 places, those with a 1 in the mask have the packed values in rising order, the others Int 0
-abbrev pub Packs : ℕ → List Value → List Value → Type 0
-Packs mask values packed = values ≡ unpacked 21 mask packed
+-- The last places, as many as are counted, have the values that are not Int 0 in order, and the mask says which those are.
+pub record IsPacked (values places : List Value) (count mask : ℕ) : Type 0 where
+  pub long : length places ≡ 21
+  pub kept_last : drop (21 - count) places ≡ kept values
+  pub counted : count ≡ kept_count values
+  pub masked : mask ≡ mask_of values
 
 -- 0 for at most four values that are not Int 0, 1 for five to eight, 2 for more
 abbrev pub class_of : List Value → ℕ

@@ -1,7 +1,7 @@
 ghost use Rattle.std.specs.Prelude.{◌≡◌, ◌+◌, ◌≤◌, IfSome, IsOk, IsSome, None, OnErr, OnOk, Some};
 
 use crate::packed::{Medium, Small};
-use crate::packing::class_of;
+use crate::packing::pack;
 use crate::record::{Record, RecordKey};
 use slab::Slab;
 use std::alloc::Global;
@@ -75,14 +75,15 @@ impl Conts {
         ensures spare { self.new.spare + 1 ≡ self.old.spare }
     {
         self.spare -= 1;
-        match class_of(&saved.values) {
-            0 => RecordKey {
+        let packed = pack(&saved.values);
+        match packed.count {
+            0..=4 => RecordKey {
                 class: 0,
-                at: self.small.insert_reserved(Small::of(saved)),
+                at: self.small.insert_reserved(Small::of(saved, &packed)),
             },
-            1 => RecordKey {
+            5..=8 => RecordKey {
                 class: 1,
-                at: self.medium.insert_reserved(Medium::of(saved)),
+                at: self.medium.insert_reserved(Medium::of(saved, &packed)),
             },
             _ => RecordKey {
                 class: 2,

@@ -1,8 +1,8 @@
-ghost use Rattle.std.specs.Prelude.{◌≡◌, ◌≤◌};
-ghost use Rattle.cont_store.specs.Packing.{kept_count};
+ghost use Rattle.std.specs.Prelude.{◌≡◌, ◌≤◌, length};
+ghost use Rattle.cont_store.specs.Packing.{IsPacked};
 ghost use Rattle.cont_store.specs.Packed.{small_whole, medium_whole};
 
-use crate::packing::{pack, unpack};
+use crate::packing::{Packed, unpack};
 use crate::record::{Record, RecordKey};
 use tw_base::{Data, Value};
 
@@ -20,13 +20,15 @@ pub(crate) struct Small {
 }
 
 impl Small {
-    pub(crate) fn of(saved: Record) -> Self
-        requires { kept_count saved.values ≤ 4 }
+    pub(crate) fn of(saved: Record, packed: &Packed) -> Self
+        requires all { length saved.values ≡ 21 }
+        requires packed { IsPacked saved.values packed.now.places packed.now.count packed.now.mask }
+        requires few { packed.now.count ≤ 4 }
         ensures { small_whole result ≡ saved }
     {
         let Record {
             rest,
-            values,
+            values: _,
             came,
             state,
             args,
@@ -34,10 +36,10 @@ impl Small {
             depth,
         } = saved;
         let mut room = [Value::Int(0); 4];
-        let mask = pack(&values, &mut room);
+        packed.fill(&mut room);
         Small {
             rest,
-            mask,
+            mask: packed.mask,
             values: room,
             came,
             state,
@@ -87,13 +89,15 @@ pub(crate) struct Medium {
 }
 
 impl Medium {
-    pub(crate) fn of(saved: Record) -> Self
-        requires { kept_count saved.values ≤ 8 }
+    pub(crate) fn of(saved: Record, packed: &Packed) -> Self
+        requires all { length saved.values ≡ 21 }
+        requires packed { IsPacked saved.values packed.now.places packed.now.count packed.now.mask }
+        requires few { packed.now.count ≤ 8 }
         ensures { medium_whole result ≡ saved }
     {
         let Record {
             rest,
-            values,
+            values: _,
             came,
             state,
             args,
@@ -101,10 +105,10 @@ impl Medium {
             depth,
         } = saved;
         let mut room = [Value::Int(0); 8];
-        let mask = pack(&values, &mut room);
+        packed.fill(&mut room);
         Medium {
             rest,
-            mask,
+            mask: packed.mask,
             values: room,
             came,
             state,

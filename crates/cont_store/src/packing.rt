@@ -1,5 +1,5 @@
-ghost use Rattle.std.specs.Prelude.{◌≡◌, ◌≤◌, length, take};
-ghost use Rattle.cont_store.specs.Packing.{is_zero, kept, kept_count, mask_of, class_of, unpacked, Packs};
+ghost use Rattle.std.specs.Prelude.{◌≡◌, ◌-◌, ◌≤◌, drop, length, take};
+ghost use Rattle.cont_store.specs.Packing.{is_zero, unpacked, IsPacked};
 
 use tw_base::Value;
 
@@ -9,56 +9,49 @@ pub(crate) fn is_zero(value: &Value) -> bool
     matches!(value, Value::Int(0))
 }
 
-/// How many values are not `Int(0)`.
-fn kept_count(values: &[Value; 21]) -> usize
-    ensures { result ≡ kept_count values.now }
-{
-    values.iter().filter(|value| !is_zero(value)).count()
+/// Values packed: the last `count` places have those that are not `Int(0)`, and the mask has a bit for each value, the
+/// lowest for the first, set where the value is not `Int(0)`.
+#[derive(Drop)]
+pub(crate) struct Packed {
+    places: [Value; 21],
+    pub(crate) count: usize,
+    pub(crate) mask: u32,
 }
 
-/// The class of the smallest room that has enough places.
-pub(crate) fn class_of(values: &[Value; 21]) -> u8
-    ensures { result ≡ class_of values.now }
+/// Packs the values, from the last to the first.
+pub(crate) fn pack(values: &[Value; 21]) -> Packed
+    ensures packed { IsPacked values.now result.places result.count result.mask }
+    ensures all { length values.now ≡ 21 }
 {
-    match kept_count(values) {
-        0..=4 => 0,
-        5..=8 => 1,
-        _ => 2,
-    }
-}
-
-/// A bit for each value, the lowest for the first: set where the value is not `Int(0)`.
-fn mask_of(values: &[Value; 21]) -> u32
-    ensures { result ≡ mask_of values.now }
-{
+    let mut places = [Value::Int(0); 21];
+    let mut count = 0;
     let mut mask = 0;
     for place in (0..21usize).rev() {
-        mask = 2 * mask + u32::from(!is_zero(&values[place]));
-    }
-    mask
-}
-
-/// Writes the values that are not `Int(0)` to the front of `room`.
-fn fill(values: &[Value; 21], room: &mut [Value])
-    requires { kept_count values.now ≤ length room.old }
-    ensures { take (kept_count values.now) room.new ≡ kept values.now }
-{
-    let mut count = 0;
-    for value in values {
-        if !is_zero(value) {
-            room[count] = *value;
+        mask *= 2;
+        if !is_zero(&values[place]) {
             count += 1;
+            places[21 - count] = values[place];
+            mask += 1;
         }
     }
+    Packed {
+        places,
+        count,
+        mask,
+    }
 }
 
-/// Packs the values into `room`, and returns their mask.
-pub(crate) fn pack(values: &[Value; 21], room: &mut [Value]) -> u32
-    requires { kept_count values.now ≤ length room.old }
-    ensures { Packs result values.now room.new }
-{
-    fill(values, room);
-    mask_of(values)
+impl Packed {
+    /// Writes the packed values to the front of `room`.
+    pub(crate) fn fill(&self, room: &mut [Value])
+        requires enough { self.now.count ≤ length room.old }
+        requires within { self.now.count ≤ 21 }
+        requires places { length self.now.places ≡ 21 }
+        ensures { take self.now.count room.new ≡ drop (21 - self.now.count) self.now.places }
+    {
+        let own = &self.places[..];
+        room[..self.count].copy_from_slice(&own[21 - self.count..]);
+    }
 }
 
 /// The values whose mask is `mask` and which are packed in `packed`.
