@@ -13,8 +13,9 @@ use Rattle.handler_code.specs.Live.{HasOp, LeadsTo}
 use Rattle.code_walks.specs.Jumps.{is_back_to, is_done, is_each_to, is_nested, is_not_entered, leads_well, loops_of}
 use Rattle.code_walks.specs.Parts.{end_of, op_at, part_of, place_or}
 use Rattle.code_rules.specs.Rules.{KeepsRules}
-use Rattle.code_rules.specs.Safety.{HasDepths, depth_in, put_by}
-use Rattle.code_walks.specs.Stacks.{depth_after, depth_at, is_served, is_value, taken, target}
+use Rattle.code_rules.specs.Safety.{depth_in}
+use Rattle.handler_code.specs.Stacks.{HasDepth, put_by, taken_by}
+use Rattle.code_walks.specs.Stacks.{depth_after, depth_at, is_served, is_value, target}
 use Rattle.code_rules.specs.Structure.{begins}
 use Rattle.code_rules.proofs.Safely.{Empty, Fitting, InPart, at-rest-empty, done-at, door-in, end-le, enough, first-of, fitting, has-op, loop-end, op-is, rises-at, served-at, shallow-at, well-at, zero-by}
 
@@ -73,7 +74,7 @@ in-more p code at =
     ap (λ z. depth_in p code z) e ∙ ap (λ z. depth_after p (op_at code z) (depth_in p code at)) s
 
 no-value-after : (p : Protocol) (code : Code) (at : ℕ) → is_value (op_at code at) ≡ false → depth_in p code (at + 1) ≡ 0
-no-value-after p code at v = in-more p code at ∙ zero-by (is_value (op_at code at)) (taken p (op_at code at)) (depth_in p code at) v
+no-value-after p code at v = in-more p code at ∙ zero-by (is_value (op_at code at)) (taken_by p (op_at code at)) (depth_in p code at) v
 
 door-depth : (p : Protocol) (code : Code) (k : KeepsRules code p) (number : ℕ) (door : Door) → slice_get code.doors number ≡ Some door → depth_in p code door.at ≡ 0
 door-depth p code k zero door e =
@@ -129,7 +130,7 @@ most p code k (suc at) = subst (λ z. depth_in p code z ≤ 24) (add-one at) (el
   | inl lt ↦
       let h = home p code (fitting p code k) at lt in
       let s = served p code k h.number h.door at h.inside in
-      subst (λ z. z ≤ 24) (sym (in-more p code at)) (few-by (is_value (op_at code at)) (taken p (op_at code at)) (depth_in p code at) s)
+      subst (λ z. z ≤ 24) (sym (in-more p code at)) (few-by (is_value (op_at code at)) (taken_by p (op_at code at)) (depth_in p code at) s)
   | inr ge ↦
       let e : op_at code at ≡ op.Done = ap (λ z. unwrap_or z op.Done) (slice_get_past code.ops at ge) in
       let v : is_value (op_at code at) ≡ false = ap is_value e in
@@ -139,23 +140,27 @@ most p code k (suc at) = subst (λ z. depth_in p code z ≤ 24) (add-one at) (el
 
 -- ---- where ops lead
 
-forward : (p : Protocol) (code : Code) (k : KeepsRules code p) (number : ℕ) (door : Door) (at next : ℕ) (o : OpCode) → InPart code number door at → HasOp code.ops at o → next ≡ at + 1 → depth_in p code next + taken p o ≡ depth_in p code at + put_by o
+put_is : (o : OpCode) → (if is_value o then 1 else 0) ≡ put_by o
+put_is (op.Const x) = refl
+put_is _ = refl
+
+forward : (p : Protocol) (code : Code) (k : KeepsRules code p) (number : ℕ) (door : Door) (at next : ℕ) (o : OpCode) → InPart code number door at → HasOp code.ops at o → next ≡ at + 1 → depth_in p code next + taken_by p o ≡ depth_in p code at + put_by o
 forward p code k number door at next o i h e =
     let q = op-is code at o h in
     let s = subst (λ z. is_served p z (depth_in p code at) ≡ true) q (served p code k number door at i) in
-    let b = balance (is_value o) (taken p o) (depth_in p code at) (depth_after p o (depth_in p code at)) s in
+    let b = balance (is_value o) (taken_by p o) (depth_in p code at) (depth_after p o (depth_in p code at)) s in
     let m = in-more p code at ∙ ap (λ z. depth_after p z (depth_in p code at)) q in
-    ap (λ z. depth_in p code z + taken p o) e ∙ ap (λ z. z + taken p o) m ∙ b
+    ap (λ z. depth_in p code z + taken_by p o) e ∙ ap (λ z. z + taken_by p o) m ∙ (b ∙ ap (λ n. depth_in p code at + n) (put_is o))
 
-aside : (p : Protocol) (code : Code) (k : KeepsRules code p) (number : ℕ) (door : Door) (at next to : ℕ) (o : OpCode) → InPart code number door at → HasOp code.ops at o → next ≡ to → target o ≡ Some to → is_value o ≡ false → door.at ≤ to → to < end_of code number → depth_in p code next + taken p o ≡ depth_in p code at + put_by o
+aside : (p : Protocol) (code : Code) (k : KeepsRules code p) (number : ℕ) (door : Door) (at next to : ℕ) (o : OpCode) → InPart code number door at → HasOp code.ops at o → next ≡ to → target o ≡ Some to → is_value o ≡ false → door.at ≤ to → to < end_of code number → depth_in p code next + taken_by p o ≡ depth_in p code at + put_by o
 aside p code k number door at next to o i h e t v from before =
     let q = op-is code at o h in
     let j : InPart code number door to = record { is_door = i.is_door; from = from; before = before } in
     let z = same-depth p code k number door to j ∙ shallow-at p code k number door at to i j (ap target q ∙ t) in
     let s = subst (λ y. is_served p y (depth_in p code at) ≡ true) q (served p code k number door at i) in
-    let d = value-less (is_value o) (taken p o) (depth_in p code at) (depth_after p o (depth_in p code at)) v s in
-    let w = ap (λ (b : Bool). if b then 1 else 0) v in
-    ap (λ y. depth_in p code y + taken p o) e ∙ ap (λ y. y + taken p o) z ∙ sum (taken p o) (depth_in p code at) (put_by o) d w
+    let d = value-less (is_value o) (taken_by p o) (depth_in p code at) (depth_after p o (depth_in p code at)) v s in
+    let w = sym (put_is o) ∙ ap (λ (b : Bool). if b then 1 else 0) v in
+    ap (λ y. depth_in p code y + taken_by p o) e ∙ ap (λ y. y + taken_by p o) z ∙ sum (taken_by p o) (depth_in p code at) (put_by o) d w
   where
     sum : (t d b : ℕ) → d ≡ t → b ≡ 0 → 0 + t ≡ d + b
     sum t d b e f = omega arith
@@ -165,7 +170,7 @@ well p code k number door at o i h =
     subst (λ z. leads_well (loops_of code (part_of code number door)) code (part_of code number door) at z ≡ true) (op-is code at o h) (well-at p code k number door at i)
 
 onward : (p : Protocol) (code : Code) (k : KeepsRules code p) (number : ℕ) (door : Door) (at next to : ℕ) (o : OpCode) → InPart code number door at → HasOp code.ops at o → target o ≡ Some to → is_value o ≡ false →
-    (nat_lt at to && (nat_lt to (end_of code number) && list_all (is_not_entered at to) (loops_of code (part_of code number door)))) ≡ true → next ≡ to → depth_in p code next + taken p o ≡ depth_in p code at + put_by o
+    (nat_lt at to && (nat_lt to (end_of code number) && list_all (is_not_entered at to) (loops_of code (part_of code number door)))) ≡ true → next ≡ to → depth_in p code next + taken_by p o ≡ depth_in p code at + put_by o
 onward p code k number door at next to o i h t v l e =
     let a = and_parts (nat_lt at to) (nat_lt to (end_of code number) && list_all (is_not_entered at to) (loops_of code (part_of code number door))) l in
     let c = and_parts (nat_lt to (end_of code number)) (list_all (is_not_entered at to) (loops_of code (part_of code number door))) a.1 in
@@ -173,7 +178,7 @@ onward p code k number door at next to o i h t v l e =
     let from = i.from in
     aside p code k number door at next to o i h e t v (omega arith) (ltb-true to (end_of code number) c.0)
 
-leads : (p : Protocol) (code : Code) (k : KeepsRules code p) (number : ℕ) (door : Door) (at next : ℕ) (o : OpCode) (written : Option ℕ) → InPart code number door at → HasOp code.ops at o → LeadsTo o at next written → depth_in p code next + taken p o ≡ depth_in p code at + put_by o
+leads : (p : Protocol) (code : Code) (k : KeepsRules code p) (number : ℕ) (door : Door) (at next : ℕ) (o : OpCode) (written : Option ℕ) → InPart code number door at → HasOp code.ops at o → LeadsTo o at next written → depth_in p code next + taken_by p o ≡ depth_in p code at + put_by o
 leads p code k number door at next (op.Const x) written i h l = forward p code k number door at next (op.Const x) i h l.0
 leads p code k number door at next (op.Get x) written i h l = forward p code k number door at next (op.Get x) i h l.0
 leads p code k number door at next (op.GetInfo x) written i h l = forward p code k number door at next (op.GetInfo x) i h l.0
@@ -223,14 +228,15 @@ leads p code k number door at next op.Done written i h l = absurd l
 empty-in : (p : Protocol) (code : Code) (k : KeepsRules code p) (at : ℕ) → Empty p code at → depth_in p code at ≡ 0
 empty-in p code k at x = same-depth p code k x.number x.door at x.inside ∙ x.deep
 
-served-op : (p : Protocol) (code : Code) (k : KeepsRules code p) (at : ℕ) (o : OpCode) → HasOp code.ops at o → taken p o ≤ depth_in p code at
+served-op : (p : Protocol) (code : Code) (k : KeepsRules code p) (at : ℕ) (o : OpCode) → HasOp code.ops at o → taken_by p o ≤ depth_in p code at
 served-op p code k at o h =
     let w = home p code (fitting p code k) at (slice_get_within code.ops at o h) in
     let s = subst (λ z. is_served p z (depth_in p code at) ≡ true) (op-is code at o h) (served p code k w.number w.door at w.inside) in
-    enough (is_value o) (taken p o) (depth_in p code at) (depth_after p o (depth_in p code at)) s
+    enough (is_value o) (taken_by p o) (depth_in p code at) (depth_after p o (depth_in p code at)) s
 
-pub depths : (p : Protocol) (code : Code) → KeepsRules code p → HasDepths p code
+pub depths : (p : Protocol) (code : Code) → KeepsRules code p → HasDepth p code (depth_in p code)
 depths p code k = record {
+  first = refl;
   doors = door-depth p code k;
   rests = λ number rest e. empty-in p code k rest.at (at-rest-empty p code k number rest e);
   enough = served-op p code k;

@@ -24,7 +24,8 @@ use Rattle.code_walks.specs.Parts.{end_of, op_at, part_of, place_or}
 use Rattle.code_rules.specs.Rules.{Breaks, KeepsRules}
 use Rattle.code_rules.specs.Safety.{IsOnWalk, IsSafe, IsStart, Reaches, starts, goes}
 use Rattle.code_rules.specs.Serving.{is_behind, is_placed, suspends_to}
-use Rattle.code_walks.specs.Stacks.{depth_after, depth_at, is_served, is_value, taken, target}
+use Rattle.handler_code.specs.Stacks.{taken_by}
+use Rattle.code_walks.specs.Stacks.{depth_after, depth_at, is_served, is_value, target}
 use Rattle.code_rules.specs.Structure.{begins, is_door_of, is_rest_of, is_structured, rises_from}
 use Rattle.code_walks.proofs.Walking.{depth_more, depth_none}
 
@@ -180,7 +181,7 @@ at-rest-empty p code k number rest e =
     let same : at + 1 ≡ rest.at = omega arith in
     let i = next-in p code k rest.door w.0 at w.1 (suspend-not-done number (op_at code at) c.0) in
     let d = depth_more p code w.0.at at w.1.from in
-    let z = zero-by (is_value (op_at code at)) (taken p (op_at code at)) (depth_at p code w.0.at (at - w.0.at)) (suspend-no-value number (op_at code at) c.0) in
+    let z = zero-by (is_value (op_at code at)) (taken_by p (op_at code at)) (depth_at p code w.0.at (at - w.0.at)) (suspend-no-value number (op_at code at) c.0) in
     subst (λ y. Empty p code y) same (record { number = rest.door; door = w.0; inside = i; deep = d ∙ z })
 
 -- ---- one op
@@ -395,4 +396,4 @@ enough false t d r e = let s = eqb-true d t e in omega arith
 pub safe : (p : Protocol) (code : Code) → KeepsRules code p → IsSafe p code
 safe p code k = λ first m s r.
     let w = walks p code k first s r in
-    record { walk = w; served = enough (is_value (op_at code m.at)) (taken p (op_at code m.at)) (length m.stack) (depth_after p (op_at code m.at) (length m.stack)) (served-of p code k m w) }
+    record { walk = w; served = enough (is_value (op_at code m.at)) (taken_by p (op_at code m.at)) (length m.stack) (depth_after p (op_at code m.at) (length m.stack)) (served-of p code k m w) }

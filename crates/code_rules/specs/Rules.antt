@@ -29,7 +29,7 @@ Breaks code p at Ends = AtOp code (λ part at. ends_wrongly code part at ≡ tru
 -- a rest does not follow its one Suspend, or is another handler's
 Breaks code p at Rests = AtRest code (λ number rest. is_placed code number rest ≡ false) at
 -- a rest loses a slot that is read from there on
-Breaks code p at Live = AtRest code (λ number rest. LosesSlot code 32 rest) at
+Breaks code p at Live = AtRest code (λ number rest. LosesSlot code rest) at
 -- a state has two doors for one kind, or none for all else
 Breaks code p at Doors = (at ≡ length code.ops) × (serves_all p code ≡ false)
 -- the set of a loop stands in a slot that others write

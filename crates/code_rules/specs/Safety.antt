@@ -1,14 +1,12 @@
 -- The machine on code that keeps the rules.
-use Rattle.std.specs.Prelude.{ℕ, ◌≡◌, ◌+◌, ◌-◌, ◌<◌, ◌≤◌, ◌⊎◌, [], Option, Some, if◌then◌else◌, length, slice_get}
+use Rattle.std.specs.Prelude.{ℕ, ◌≡◌, ◌-◌, ◌<◌, ◌≤◌, ◌⊎◌, [], Some, length, slice_get}
 use Rattle.teapot_tree.specs.declared.protocol.Protocol.{Protocol}
 use Rattle.handler_code.specs.declared.code.Code.{Code}
 use Rattle.handler_code.specs.declared.code.Door.{Door}
-use Rattle.handler_code.specs.declared.code.OpCode.{OpCode}
-use Rattle.handler_code.specs.declared.code.Rest.{Rest}
-use Rattle.handler_code.specs.Live.{HasOp, LeadsTo}
 use Rattle.handler_code.specs.Machine.{Machine, Next, move_of}
 use Rattle.code_walks.specs.Parts.{AtRest, end_of, op_at}
-use Rattle.code_walks.specs.Stacks.{depth_at, is_value, taken}
+use Rattle.handler_code.specs.Stacks.{taken_by}
+use Rattle.code_walks.specs.Stacks.{depth_at}
 
 -- from the one machine the code comes to the other
 pub data Reaches (p : Protocol) (code : Code) (first : Machine) : Machine → Type 0 where
@@ -40,30 +38,12 @@ pub record IsOnWalk (p : Protocol) (code : Code) (m : Machine) : Type 0 where
 -- and the values that the op takes are there
 pub record IsSafeAt (p : Protocol) (code : Code) (m : Machine) : Type 0 where
   pub walk : IsOnWalk p code m
-  pub served : taken p (op_at code m.at) ≤ length m.stack
+  pub served : taken_by p (op_at code m.at) ≤ length m.stack
 
 -- a machine that starts at a door or at a rest stands safely wherever it comes
 abbrev pub IsSafe : Protocol → Code → Type 0
 IsSafe p code = (first m : Machine) → IsStart code first → Reaches p code first m → IsSafeAt p code m
 
--- ---- the same, place by place
-
 -- how many values are on the stack before the op at a place, by a walk over all ops
 abbrev pub depth_in : Protocol → Code → ℕ → ℕ
 depth_in p code at = depth_at p code 0 at
-
-abbrev pub put_by : OpCode → ℕ
-put_by o = if is_value o then 1 else 0
-
--- At each place the stack has a depth: none at a door and at a rest, at most 24, enough for each op, and the same from
--- wherever an op leads there.
-pub record HasDepths (p : Protocol) (code : Code) : Type 0 where
-  pub doors : (number : ℕ) (door : Door) → slice_get code.doors number ≡ Some door → depth_in p code door.at ≡ 0
-  pub rests : (number : ℕ) (rest : Rest) → slice_get code.rests number ≡ Some rest → depth_in p code rest.at ≡ 0
-  pub enough : (at : ℕ) (o : OpCode) → HasOp code.ops at o → taken p o ≤ depth_in p code at
-  pub leads :
-      (at next : ℕ) (o : OpCode) (written : Option ℕ) →
-      HasOp code.ops at o →
-      LeadsTo o at next written →
-      depth_in p code next + taken p o ≡ depth_in p code at + put_by o
-  pub most : (at : ℕ) → depth_in p code at ≤ 24

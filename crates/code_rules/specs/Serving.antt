@@ -1,5 +1,5 @@
 -- Rests and their suspensions, and the doors of each state.
-use Rattle.std.specs.Prelude.{ℕ, ◌≡◌, ◌-◌, ◌<◌, ◌==◌, nat_le, nat_lt, Bool, true, false, not, ◌&&◌, ◌||◌, List, [], ◌∷◌, Option, Some, None, count_by, length, slice_get}
+use Rattle.std.specs.Prelude.{ℕ, ◌≡◌, ◌-◌, ◌<◌, ◌==◌, nat_le, nat_lt, Bool, true, false, not, ◌&&◌, List, [], ◌∷◌, Option, Some, None, count_by, length, slice_get, slice_index}
 use Rattle.std.specs.List.{list_any}
 use Rattle.tw_base.specs.Bits.{all_below}
 use Rattle.teapot_tree.specs.declared.protocol.Protocol.{Protocol}
@@ -9,10 +9,9 @@ use Rattle.handler_code.specs.declared.code.OpCode.{OpCode}
 use Rattle.handler_code.specs.declared.code.OpCode.TheVariants as op
 use Rattle.handler_code.specs.declared.code.Rest.{Rest}
 use Rattle.handler_code.specs.Doors.{is_for_all_else, same_kind}
-use Rattle.handler_code.specs.Live.{ReadsFirst}
 use Rattle.handler_code.specs.Machine.{is_live}
 use Rattle.code_walks.specs.Parts.{end_of, op_at}
-use Rattle.code_walks.specs.Table.{is_marked}
+use Rattle.live_slots.specs.Tables.{IsReadFirst, is_set}
 
 -- ---- rests
 
@@ -31,19 +30,21 @@ is_placed code number rest =
     (count_by (suspends_to number) code.ops == 1)
     && (nat_lt 0 rest.at && (suspends_to number (op_at code (rest.at - 1)) && is_behind code rest.door (slice_get code.doors rest.door) (rest.at - 1)))
 
--- the slot is read first from the rest's place, and is not live
-abbrev pub LosesAt : Code → Rest → ℕ → Type 0
-LosesAt code rest slot = ReadsFirst code.ops rest.at slot × (is_live rest slot ≡ false)
+-- how many ops name the rest of each number
+abbrev pub AreCounted : List OpCode → List ℕ → Type 0
+AreCounted ops counts = (number : ℕ) → number < length counts → slice_index counts number ≡ count_by (suspends_to number) ops
 
--- A slot below a bound is lost. No handler has 32 slots: one from there on is out of range.
-pub record LosesSlot (code : Code) (bound : ℕ) (rest : Rest) : Type 0 where
+-- A slot that is read first from the rest's place is not live. No handler has 32 slots: one from there on is out of range.
+pub record LosesSlot (code : Code) (rest : Rest) : Type 0 where
   pub slot : ℕ
-  pub small : slot < bound
-  pub loses : LosesAt code rest slot
+  pub read : IsReadFirst code.ops rest.at slot
+  pub lost : is_live rest slot ≡ false
 
--- by a table of the places from which the slot is read first
-abbrev pub keeps : List Bool → Rest → ℕ → Bool
-keeps table rest slot = not (is_marked table rest.at) || is_live rest slot
+-- the same, by a table of the slots that are read first
+pub record LosesBy (table : List ℕ) (rest : Rest) : Type 0 where
+  pub slot : ℕ
+  pub read : is_set table rest.at slot ≡ true
+  pub lost : is_live rest slot ≡ false
 
 -- ---- doors
 

@@ -9,6 +9,7 @@ mod rests;
 mod serving;
 mod sets;
 mod structure;
+mod suspensions;
 mod verifier;
 
 pub use fault::{CodeFault, Rule};

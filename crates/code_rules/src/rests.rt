@@ -1,13 +1,14 @@
-ghost use Rattle.std.specs.Prelude.{◌≡◌, ◌<◌, ◌^◌, IfOk, None, Some, false, if◌then◌else◌, length, slice_get};
-ghost use Rattle.handler_code.specs.Machine.{is_live};
+ghost use Rattle.std.specs.Prelude.{◌≡◌, ◌<◌, ◌^◌, ◌↔◌, IfOk, None, Some, false, if◌then◌else◌, length, slice_get};
 ghost use Rattle.code_walks.specs.Least.{IsLeast};
 ghost use Rattle.code_walks.specs.Parts.{AtRest};
-ghost use Rattle.code_rules.specs.Serving.{LosesAt, LosesSlot, is_placed, keeps};
-ghost use Rattle.code_walks.specs.Table.{IsExact};
+ghost use Rattle.code_rules.specs.Serving.{AreCounted, LosesBy, LosesSlot, is_placed};
+ghost use Rattle.live_slots.specs.Tables.{IsExact};
 
 use crate::serving::is_placed;
-use code_walks::{is_marked, lesser, read_first};
+use crate::suspensions::suspensions;
+use code_walks::lesser;
 use handler_code::{Code, Rest};
+use live_slots::{live_table, slots_at};
 use std::alloc::Global;
 use tw_base::Memory;
 
@@ -27,57 +28,56 @@ fn place_unless(holds: bool, at: u32) -> Option<u32>
 }
 
 /// The least place of a rest that does not follow its one Suspend.
-pub fn first_unplaced(code: &Code) -> Option<u32>
+pub fn first_unplaced(alloc: Global, code: &Code) -> Result<Option<u32>, Memory>
     requires { length code.now.ops < 2 ^ 32 }
+    ensures { IfOk result (IsLeast (AtRest code.now (λ number rest. is_placed code.now number rest ≡ false))) }
+{
+    let counts = suspensions(alloc, code.ops.items(), code.rests.len())?;
+    Ok(first_of_unplaced(code, counts.items()))
+}
+
+/// The same, by how many ops name each rest.
+fn first_of_unplaced(code: &Code, counts: &[u32]) -> Option<u32>
+    requires few { length code.now.ops < 2 ^ 32 }
+    requires all { length counts.now ≡ length code.now.rests }
+    requires counted { AreCounted code.now.ops counts.now }
     ensures { IsLeast (AtRest code.now (λ number rest. is_placed code.now number rest ≡ false)) result }
 {
     let mut least = None;
     for number in 0..code.rests.len() {
         let rest = rest_at(code, number);
-        let placed = is_placed(code, number, rest);
+        let placed = is_placed(code, counts[number], number, rest);
         least = lesser(least, place_unless(placed, rest.at));
     }
     least
 }
 
-/// Whether the slot is live in the rest, if it is read first from its place.
-fn keeps(table: &[bool], rest: Rest, slot: u8) -> bool
-    requires { slot < 32 }
-    ensures { result ≡ keeps table.now rest slot }
+/// Whether each slot of the table at the rest's place is live.
+fn keeps(table: &[u32], rest: Rest) -> bool
+    ensures { (result ≡ false) ↔ LosesBy table.now rest }
 {
-    !is_marked(table, rest.at as usize) || is_live(rest, slot)
-}
-
-fn is_live(rest: Rest, slot: u8) -> bool
-    requires { slot < 32 }
-    ensures { result ≡ is_live rest slot }
-{
-    (rest.live >> slot) & 1 == 1
-}
-
-/// The least place of a rest that loses the slot.
-fn first_losing_slot(code: &Code, table: &[bool], slot: u8) -> Option<u32>
-    requires small { slot < 32 }
-    requires exact { IsExact code.now.ops slot table.now }
-    ensures { IsLeast (AtRest code.now (λ number rest. LosesAt code.now rest slot)) result }
-{
-    let mut least = None;
-    for number in 0..code.rests.len() {
-        let rest = rest_at(code, number);
-        let kept = keeps(table, rest, slot);
-        least = lesser(least, place_unless(kept, rest.at));
-    }
-    least
+    let lost = slots_at(table, rest.at as usize) & !rest.live;
+    lost == 0
 }
 
 /// The least place of a rest that loses a slot.
 pub fn first_losing(alloc: Global, code: &Code) -> Result<Option<u32>, Memory>
-    ensures { IfOk result (λ o. IsLeast (AtRest code.now (λ number rest. LosesSlot code.now 32 rest)) o) }
+    ensures { IfOk result (IsLeast (AtRest code.now (λ number rest. LosesSlot code.now rest))) }
+{
+    let table = live_table(alloc, code.ops.items())?;
+    Ok(first_of_losing(code, table.items()))
+}
+
+/// The same, by a table of the slots that are read first.
+fn first_of_losing(code: &Code, table: &[u32]) -> Option<u32>
+    requires { IsExact code.now.ops table.now }
+    ensures { IsLeast (AtRest code.now (λ number rest. LosesSlot code.now rest)) result }
 {
     let mut least = None;
-    for slot in 0..32u8 {
-        let table = read_first(alloc, code.ops.items(), slot)?;
-        least = lesser(least, first_losing_slot(code, table.as_slice(), slot));
+    for number in 0..code.rests.len() {
+        let rest = rest_at(code, number);
+        let kept = keeps(table, rest);
+        least = lesser(least, place_unless(kept, rest.at));
     }
-    Ok(least)
+    least
 }

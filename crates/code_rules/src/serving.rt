@@ -14,12 +14,6 @@ fn suspends_to(op: &OpCode, number: usize) -> bool
     matches!(op, OpCode::Suspend(_, r) if *r as usize == number)
 }
 
-fn suspensions(ops: &[OpCode], number: usize) -> usize
-    ensures { result ≡ count_by (suspends_to number) ops.now }
-{
-    ops.iter().filter(|op| suspends_to(op, number)).count()
-}
-
 /// Whether the place is in the handler behind the door of this number.
 fn is_behind(code: &Code, number: u16, at: u32) -> bool
     requires { length code.now.ops < 2 ^ 32 }
@@ -31,12 +25,13 @@ fn is_behind(code: &Code, number: u16, at: u32) -> bool
     }
 }
 
-/// Whether one Suspend names the rest, and stands right before it, behind the rest's door.
-pub fn is_placed(code: &Code, number: usize, rest: Rest) -> bool
-    requires { length code.now.ops < 2 ^ 32 }
+/// Whether one Suspend names the rest, and stands right before it, behind the rest's door. So many ops name it.
+pub fn is_placed(code: &Code, count: u32, number: usize, rest: Rest) -> bool
+    requires few { length code.now.ops < 2 ^ 32 }
+    requires counted { count ≡ count_by (suspends_to number) code.now.ops }
     ensures { result ≡ is_placed code.now number rest }
 {
-    suspensions(code.ops.items(), number) == 1
+    count == 1
         && 0 < rest.at
         && suspends_to(&op_at(code, rest.at - 1), number)
         && is_behind(code, rest.door, rest.at - 1)

@@ -31,7 +31,7 @@ fn least_place(alloc: Global, p: &Checked, code: &Code, rule: Rule) -> Result<Op
     ensures { IfOk result (λ o. IsLeast (λ at. Breaks code.now p.now at rule) o) }
 {
     match rule {
-        Rule::Rests => Ok(first_unplaced(code)),
+        Rule::Rests => first_unplaced(alloc, code),
         Rule::Live => first_losing(alloc, code),
         Rule::Doors => Ok(unserved(p, code)),
         _ => first_in_handlers(alloc, p, code, rule),

@@ -8,7 +8,8 @@ use Rattle.teapot_tree.specs.declared.protocol.Protocol.{Protocol}
 use Rattle.code_walks.specs.declared.parts.Part.{Part}
 use Rattle.code_walks.specs.Least.{IsLeast, lesser}
 use Rattle.code_walks.specs.Parts.{Within, op_at}
-use Rattle.code_walks.specs.Stacks.{BreaksStack, IsLedTo, LeadsInside, depth_after, depth_at, is_inside, is_served, is_unserved, is_value, taken, target}
+use Rattle.handler_code.specs.Stacks.{taken_by}
+use Rattle.code_walks.specs.Stacks.{BreaksStack, IsLedTo, LeadsInside, depth_after, depth_at, is_inside, is_served, is_unserved, is_value, target}
 use Rattle.code_walks.proofs.Leasts.{least_more, same_least}
 use Rattle.code_walks.proofs.Walking.{depth_more, depth_none}
 
@@ -17,7 +18,7 @@ small-by true t d = omega arith
 small-by false t d = omega arith
 
 pub depth_small : (p : Protocol) (o : OpCode) (d : ℕ) → depth_after p o d ≤ d + 1
-depth_small p o d = small-by (is_value o) (taken p o) d
+depth_small p o d = small-by (is_value o) (taken_by p o) d
 
 deep-by : (b : Bool) (t d : ℕ) → b ≡ true → 0 < (if b then d - t + 1 else 0)
 deep-by true t d e = omega arith
@@ -69,14 +70,14 @@ deep-inside p code from to lt v =
     let e = depth_more p code from (to - 1) (omega arith) in
     let s : (to - 1) + 1 ≡ to = omega arith in
     let d = subst (λ z. depth_at p code from (z - from) ≡ depth_after p (op_at code (to - 1)) (depth_at p code from ((to - 1) - from))) s e in
-    subst (λ z. 0 < z) (sym d) (deep-by (is_value (op_at code (to - 1))) (taken p (op_at code (to - 1))) (depth_at p code from ((to - 1) - from)) v)
+    subst (λ z. 0 < z) (sym d) (deep-by (is_value (op_at code (to - 1))) (taken_by p (op_at code (to - 1))) (depth_at p code from ((to - 1) - from)) v)
 
 value-inside : (p : Protocol) (code : Code) (from to : ℕ) → from < to → 0 < depth_at p code from (to - from) → is_value (op_at code (to - 1)) ≡ true
 value-inside p code from to lt deep =
     let e = depth_more p code from (to - 1) (omega arith) in
     let s : (to - 1) + 1 ≡ to = omega arith in
     let d = subst (λ z. depth_at p code from (z - from) ≡ depth_after p (op_at code (to - 1)) (depth_at p code from ((to - 1) - from))) s e in
-    value-by (is_value (op_at code (to - 1))) (taken p (op_at code (to - 1))) (depth_at p code from ((to - 1) - from)) (subst (λ z. 0 < z) d deep)
+    value-by (is_value (op_at code (to - 1))) (taken_by p (op_at code (to - 1))) (depth_at p code from ((to - 1) - from)) (subst (λ z. 0 < z) d deep)
 
 led-to : (p : Protocol) (code : Code) (part : Part) (k : ℕ) → LedBefore code part part.end k → Within part (IsLedTo p code part) k
 led-to p code part k x =

@@ -3,4 +3,3 @@ pub mod Kinds
 pub mod Least
 pub mod Parts
 pub mod Stacks
-pub mod Table

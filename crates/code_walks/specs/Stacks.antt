@@ -1,44 +1,20 @@
 -- How many values are on the stack before each op.
-use Rattle.std.specs.Prelude.{ℕ, zero, suc, ◌≡◌, ◌<◌, ◌≤◌, ◌⊎◌, ◌+◌, ◌-◌, ◌==◌, nat_le, nat_lt, Bool, true, false, not, ◌&&◌, if◌then◌else◌, Option, Some, None, slice_get}
+use Rattle.std.specs.Prelude.{ℕ, zero, suc, ◌≡◌, ◌<◌, ◌≤◌, ◌⊎◌, ◌+◌, ◌-◌, ◌==◌, nat_le, nat_lt, Bool, true, not, ◌&&◌, if◌then◌else◌, Option, Some, None}
 use Rattle.teapot_tree.specs.declared.protocol.Protocol.{Protocol}
 use Rattle.handler_code.specs.declared.code.Code.{Code}
 use Rattle.handler_code.specs.declared.code.OpCode.{OpCode}
 use Rattle.handler_code.specs.declared.code.OpCode.TheVariants as op
-use Rattle.handler_code.specs.Machine.{message_arity, state_arity}
+use Rattle.handler_code.specs.Stacks.{put_by, taken_by}
 use Rattle.code_walks.specs.declared.parts.Part.{Part}
 use Rattle.code_walks.specs.Parts.{op_at}
 
 -- an op that leaves a value on the stack
 abbrev pub is_value : OpCode → Bool
-is_value (op.Const x) = true
-is_value (op.Get k) = true
-is_value (op.GetInfo k) = true
-is_value op.Me = true
-is_value op.Home = true
-is_value op.One = true
-is_value op.Not = true
-is_value op.Count = true
-is_value (op.Two o) = true
-is_value _ = false
-
--- how many values an op takes off the stack
-abbrev pub taken : Protocol → OpCode → ℕ
-taken p op.One = 1
-taken p op.Not = 1
-taken p op.Count = 1
-taken p (op.Two o) = 2
-taken p (op.Put k) = 1
-taken p (op.PutInfo k) = 1
-taken p (op.JumpIfNot to) = 1
-taken p (op.Send m) = message_arity (slice_get p.messages m) + 1
-taken p (op.SendAll m) = message_arity (slice_get p.messages m) + 1
-taken p (op.Goto s) = state_arity (slice_get p.states s)
-taken p (op.Suspend s r) = state_arity (slice_get p.states s)
-taken p _ = 0
+is_value o = put_by o == 1
 
 -- how many values are there after it; after an op that leaves none the stack is taken as empty
 abbrev pub depth_after : Protocol → OpCode → ℕ → ℕ
-depth_after p o depth = if is_value o then depth - taken p o + 1 else 0
+depth_after p o depth = if is_value o then depth - taken_by p o + 1 else 0
 
 -- how many values are there after so many ops from a place on
 abbrev pub depth_at : Protocol → Code → ℕ → ℕ → ℕ
@@ -48,7 +24,7 @@ depth_at p code from (suc k) = depth_after p (op_at code (from + k)) (depth_at p
 -- The stack does not run short. It holds at most 24 values, and none after an op that leaves none.
 abbrev pub is_served : Protocol → OpCode → ℕ → Bool
 is_served p o depth =
-    if is_value o then nat_le (taken p o) depth && nat_le (depth_after p o depth) 24 else depth == taken p o
+    if is_value o then nat_le (taken_by p o) depth && nat_le (depth_after p o depth) 24 else depth == taken_by p o
 
 -- the place to which an op leads, other than the next one
 abbrev pub target : OpCode → Option ℕ

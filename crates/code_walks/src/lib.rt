@@ -1,8 +1,7 @@
 //! Walks over the ops of a handler.
 //!
-//! Where jumps and loops lead (`leads_well`), how deep the stack is at each place (`first_on_stack`), of which types the values
-//! on it are (`first_mistyped`), and which slots are read first from a place on (`read_first`, `live`). The rules of code are
-//! made of these.
+//! Where jumps and loops lead (`leads_well`), how deep the stack is at each place (`first_on_stack`), and of which types the
+//! values on it are (`first_mistyped`). The rules of code are made of these.
 #![tactic(auto)]
 
 mod handlers;
@@ -11,7 +10,6 @@ mod kinds;
 mod least;
 mod parts;
 mod stacks;
-mod table;
 
 pub use handlers::{handler_of, same_kind};
 pub use jumps::{Loop, is_done, is_in_range, leads_well, loops_of};
@@ -19,4 +17,3 @@ pub use kinds::{first_mistyped, slot_types};
 pub use least::lesser;
 pub use parts::{Part, end_of, op_at, ops_of, part_at};
 pub use stacks::first_on_stack;
-pub use table::{is_marked, live, read_first};

@@ -55,7 +55,7 @@ pub fn ops_of(code: &Code, part: Part) -> &[OpCode]
 }
 
 /// The ops before a place.
-pub fn front(ops: &[OpCode], end: usize) -> &[OpCode]
+fn front(ops: &[OpCode], end: usize) -> &[OpCode]
     ensures { result.now ≡ take end ops.now }
 {
     if end < ops.len() { &ops[..end] } else { ops }

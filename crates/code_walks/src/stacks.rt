@@ -2,7 +2,8 @@ ghost use Rattle.std.specs.Prelude.{◌≡◌, ◌+◌, ◌<◌, ◌^◌, true, 
 ghost use Rattle.handler_code.specs.Machine.{message_arity, state_arity};
 ghost use Rattle.code_walks.specs.Least.{IsLeast};
 ghost use Rattle.code_walks.specs.Parts.{Within};
-ghost use Rattle.code_walks.specs.Stacks.{BreaksStack, IsLedTo, LeadsInside, depth_after, is_inside, is_served, is_unserved, is_value, taken, target};
+ghost use Rattle.handler_code.specs.Stacks.{taken_by};
+ghost use Rattle.code_walks.specs.Stacks.{BreaksStack, IsLedTo, LeadsInside, depth_after, is_inside, is_served, is_unserved, is_value, target};
 
 use crate::least::lesser;
 use crate::parts::{Part, op_at};
@@ -47,8 +48,8 @@ fn state_arity(p: &Protocol, state: u8) -> usize
 }
 
 /// How many values an op takes off the stack.
-fn taken(p: &Protocol, op: &OpCode) -> usize
-    ensures { result ≡ taken p.now op.now }
+fn taken_by(p: &Protocol, op: &OpCode) -> usize
+    ensures { result ≡ taken_by p.now op.now }
 {
     match *op {
         OpCode::One => 1,
@@ -71,7 +72,7 @@ fn depth_after(p: &Protocol, op: &OpCode, depth: usize) -> usize
     ensures { result ≡ depth_after p.now op.now depth }
 {
     if is_value(op) {
-        depth.saturating_sub(taken(p, op)) + 1
+        depth.saturating_sub(taken_by(p, op)) + 1
     } else {
         0
     }
@@ -83,9 +84,9 @@ fn is_served(p: &Protocol, op: &OpCode, depth: usize) -> bool
     ensures { result ≡ is_served p.now op.now depth }
 {
     if is_value(op) {
-        taken(p, op) <= depth && depth_after(p, op, depth) <= 24
+        taken_by(p, op) <= depth && depth_after(p, op, depth) <= 24
     } else {
-        depth == taken(p, op)
+        depth == taken_by(p, op)
     }
 }
 

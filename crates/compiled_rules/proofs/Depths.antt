@@ -26,7 +26,8 @@ use Rattle.handler_code.specs.declared.code.OpCode.{OpCode}
 use Rattle.handler_code.specs.declared.code.OpCode.TheVariants as op
 use Rattle.handler_code.specs.Live.{HasOp}
 use Rattle.handler_code.specs.Machine.{message_arity, state_arity}
-use Rattle.code_walks.specs.Stacks.{depth_after, is_served, is_value, taken, target}
+use Rattle.handler_code.specs.Stacks.{taken_by}
+use Rattle.code_walks.specs.Stacks.{depth_after, is_served, is_value, target}
 use Rattle.compiled_meaning.specs.Follows.{Evaluates, EvaluatesAll, atom_op, get_op, put_op, slot_of}
 use Rattle.compiled_meaning.specs.Follows as follows
 use Rattle.compiled_meaning.proofs.Accepted.{message_counted, state_counted}
@@ -36,20 +37,20 @@ use Rattle.compiled_rules.proofs.Walk.{Closed, Shallow, last_op}
 -- ---- one op
 
 module _ (p : Protocol) where
-  pub after_value : (o : OpCode) (d : ℕ) → is_value o ≡ true → depth_after p o d ≡ d - taken p o + 1
-  after_value o d e = ap (λ b. if b then d - taken p o + 1 else 0) e
+  pub after_value : (o : OpCode) (d : ℕ) → is_value o ≡ true → depth_after p o d ≡ d - taken_by p o + 1
+  after_value o d e = ap (λ b. if b then d - taken_by p o + 1 else 0) e
 
   pub after_other : (o : OpCode) (d : ℕ) → is_value o ≡ false → depth_after p o d ≡ 0
-  after_other o d e = ap (λ b. if b then d - taken p o + 1 else 0) e
+  after_other o d e = ap (λ b. if b then d - taken_by p o + 1 else 0) e
 
-  value_served : (o : OpCode) (d : ℕ) → is_value o ≡ true → taken p o ≤ d → d ≤ taken p o + 23 → is_served p o d ≡ true
+  value_served : (o : OpCode) (d : ℕ) → is_value o ≡ true → taken_by p o ≤ d → d ≤ taken_by p o + 23 → is_served p o d ≡ true
   value_served o d e few room =
       let n : depth_after p o d ≤ 24 = omega (arith, after_value o d e) in
-      ap (λ b. if b then nat_le (taken p o) d && nat_le (depth_after p o d) 24 else (d == taken p o)) e ∙ both _ _ (le_true (taken p o) d few) (le_true (depth_after p o d) 24 n)
+      ap (λ b. if b then nat_le (taken_by p o) d && nat_le (depth_after p o d) 24 else (d == taken_by p o)) e ∙ both _ _ (le_true (taken_by p o) d few) (le_true (depth_after p o d) 24 n)
 
-  other_served : (o : OpCode) (d : ℕ) → is_value o ≡ false → d ≡ taken p o → is_served p o d ≡ true
+  other_served : (o : OpCode) (d : ℕ) → is_value o ≡ false → d ≡ taken_by p o → is_served p o d ≡ true
   other_served o d e f =
-      ap (λ b. if b then nat_le (taken p o) d && nat_le (depth_after p o d) 24 else (d == taken p o)) e ∙ eq-eqb d (taken p o) f
+      ap (λ b. if b then nat_le (taken_by p o) d && nat_le (depth_after p o d) 24 else (d == taken_by p o)) e ∙ eq-eqb d (taken_by p o) f
 
   pub value_leads : (o : OpCode) (to : ℕ) → is_value o ≡ true → target o ≡ Some to → ⊥
   value_leads (op.Jump x) to e f = cc (e)
@@ -61,7 +62,7 @@ module _ (p : Protocol) where
   -- an op that pushes a value
   record Pushes (o : OpCode) : Type 0 where
     value : is_value o ≡ true
-    none : taken p o ≡ 0
+    none : taken_by p o ≡ 0
 
   get_pushes : (i j : Option ℕ) → Pushes (get_op i j)
   get_pushes (Some k) j = record { value = refl; none = refl }
@@ -112,11 +113,11 @@ module _ (p : Protocol) (names : List Name) (ops : List OpCode) (from : ℕ) (D 
     pub over : Over ops IsServed at after
     pub more : D after ≡ D at + n
 
-  one_value : (at : ℕ) (o : OpCode) → from ≤ at → HasOp ops at o → is_value o ≡ true → taken p o ≤ D at → D at ≤ taken p o + 23 → Over ops IsServed at (at + 1) × (D (at + 1) ≡ D at - taken p o + 1)
+  one_value : (at : ℕ) (o : OpCode) → from ≤ at → HasOp ops at o → is_value o ≡ true → taken_by p o ≤ D at → D at ≤ taken_by p o + 23 → Over ops IsServed at (at + 1) × (D (at + 1) ≡ D at - taken_by p o + 1)
   one_value at o f has e few room =
       (over_one ops IsServed at o has (record { served = value_served p o (D at) e few room; leads = λ to g. absurd (value_leads p o to e g) }), step at o f has ∙ after_value p o (D at) e)
 
-  one_more : (at after : ℕ) (o : OpCode) → from ≤ after → HasOp ops after o → is_value o ≡ true → taken p o ≡ 1 → D at ≤ 23 → Grows 1 at after → Grows 1 at (after + 1)
+  one_more : (at after : ℕ) (o : OpCode) → from ≤ after → HasOp ops after o → is_value o ≡ true → taken_by p o ≡ 1 → D at ≤ 23 → Grows 1 at after → Grows 1 at (after + 1)
   one_more at after o f has e t room g =
       let k = g.more in
       let x = one_value after o f has e (omega arith) (omega arith) in
@@ -188,7 +189,7 @@ module _ (p : Protocol) (tree : IsTree p) where
     record Takes (a : Simple) (o : OpCode) : Type 0 where
       other : is_value o ≡ false
       next : target o ≡ None
-      count : taken p o ≡ length (simple_exprs a)
+      count : taken_by p o ≡ length (simple_exprs a)
       few : length (simple_exprs a) ≤ 5
 
     put_takes : (n : Name) (e : Expr) (i j : Option ℕ) (o : OpCode) → put_op i j ≡ Some o → Takes (assign n e) o
@@ -242,7 +243,7 @@ module _ (p : Protocol) (tree : IsTree p) where
       Serves lo hi k i = from ≤ lo → D lo ≡ 0 → Clears lo hi
 
       -- an op that leaves none
-      one_other : (at : ℕ) (o : OpCode) → from ≤ at → HasOp ops at o → is_value o ≡ false → D at ≡ taken p o → ((to : ℕ) → target o ≡ Some to → D to ≡ 0) → Clears at (at + 1)
+      one_other : (at : ℕ) (o : OpCode) → from ≤ at → HasOp ops at o → is_value o ≡ false → D at ≡ taken_by p o → ((to : ℕ) → target o ≡ Some to → D to ≡ 0) → Clears at (at + 1)
       one_other at o f has e d leads = record {
         up = omega arith;
         over = over_one ops Is at o has (record { served = other_served p o (D at) e d; leads = leads });

@@ -32,12 +32,12 @@ use Rattle.compiled_rules.proofs.Spans.{before_or, le_true, lt_true}
 
 -- ---- live slots
 
-pub keeps_live : (p : Protocol) (code : Code) → IsCode p code → (at : ℕ) → AtRest code (λ number rest. LosesSlot code 32 rest) at → ⊥
+pub keeps_live : (p : Protocol) (code : Code) → IsCode p code → (at : ℕ) → AtRest code (λ number rest. LosesSlot code rest) at → ⊥
 keeps_live p code c at w =
     let l = w.holds in
-    let loses = l.loses in
-    let live = (c.live w.number l.slot w.rest w.is_rest).1 loses.0 in
-    let lost = loses.1 in
+    let read = l.read in
+    let live = (c.live w.number l.slot w.rest w.is_rest).1 read.reads in
+    let lost = l.lost in
     cc
 
 -- ---- the Suspend of a rest

@@ -1,9 +1,10 @@
 -- Handler after handler, the code becomes that of the protocol.
-use Rattle.std.proofs.Common.{◌≡◌, ℕ, zero, suc, ◌+◌, true, List, [], ◌∷◌, ◌++◌, Option, Some, None, length, refl, sym, ap, subst, ◌∙◌, arith, append_assoc, length-append, replicate}
+use Rattle.std.proofs.Common.{◌≡◌, ℕ, zero, suc, ◌+◌, ◌<◌, true, List, [], ◌∷◌, ◌++◌, Option, Some, None, length, refl, sym, ap, subst, ◌∙◌, arith, append_assoc, length-append, replicate}
 use Rattle.std.specs.Prelude.{map, slice_get, ◌↔◌, IfOk, Result, Ok, Err}
 use Rattle.tw_base.specs.declared.memory.Memory.{Memory}
 use Rattle.std.specs.Option.{option_map}
-use Rattle.std.specs.List.{flat_map, enumerate_from}
+use Rattle.std.specs.List.{flat_map, enumerate_from, list_all}
+use Rattle.std.proofs.lemmas.Bool.{and_parts, ltb-true}
 use Rattle.std.proofs.lemmas.List.{append-nil}
 use Rattle.std.proofs.lemmas.Option.{slice_get-map}
 use Rattle.teapot_tree.specs.declared.protocol.Protocol.{Protocol}
@@ -13,12 +14,12 @@ use Rattle.handler_code.specs.declared.code.Door.{Door}
 use Rattle.handler_code.specs.declared.code.OpCode.{OpCode}
 use Rattle.handler_code.specs.declared.code.OpCode.TheVariants as op
 use Rattle.handler_code.specs.declared.code.Rest.{Rest}
-use Rattle.handler_code.specs.Live.{ReadsFirst}
+use Rattle.handler_code.specs.Live.{ReadsFirst, later, read_by, reads}
 use Rattle.handler_code.specs.Machine.{is_live}
 use Rattle.compiled_meaning.specs.Compiled.{in_order, loops_in, rests_by, rests_in}
 use Rattle.compiled_meaning.specs.Whole.{Entry, IsCode, door_of, doors_from, entries_code, entries_from, entries_of, entry_code, place_by, rest_doors, rest_places}
-use Rattle.suspend_split.specs.Drafts.{HasLive, no_code, rest_after, rests_after, with_entries, with_entry, with_live, with_ops}
-use Rattle.suspend_split.specs.Tables.{IsExact}
+use Rattle.suspend_split.specs.Drafts.{HasLive, no_code, reads_low, rest_after, rests_after, with_entries, with_entry, with_live, with_ops}
+use Rattle.live_slots.specs.Tables.{IsExact, IsReadFirst}
 
 map-append : {X Y : Type 0} (f : X → Y) (xs ys : List X) → map f (xs ++ ys) ≡ map f xs ++ map f ys
 map-append f [] ys = refl
@@ -176,16 +177,38 @@ module _ (p : Protocol) where
 
 -- ---- live slots
 
-module _ (ops : List OpCode) (table : List ℕ) (exact : IsExact ops table) (k : ℕ) where
+low_read : (o : OpCode) (k : ℕ) → reads_low o ≡ true → read_by o ≡ Some k → k < 32
+low_read (op.Get j) k low e = let same : j ≡ k = cc in subst (λ n. n < 32) same (ltb-true j 32 low)
+low_read (op.EachNext j h to) k low e = let same : h ≡ k = cc in subst (λ n. n < 32) same (ltb-true h 32 low)
+low_read _ k low e = absurd (cc)
+
+low_op : (ops : List OpCode) (at : ℕ) (o : OpCode) → list_all reads_low ops ≡ true → slice_get ops at ≡ Some o → reads_low o ≡ true
+low_op [] at o low e = absurd (cc)
+low_op (x ∷ ops) zero o low e =
+    let same : x ≡ o = cc in subst (λ q. reads_low q ≡ true) same (and_parts (reads_low x) (list_all reads_low ops) low).0
+low_op (x ∷ ops) (suc at) o low e = low_op ops at o (and_parts (reads_low x) (list_all reads_low ops) low).1 e
+
+-- where each op reads a slot below 32, no other is read first
+below : (ops : List OpCode) → list_all reads_low ops ≡ true → {at k : ℕ} → ReadsFirst ops at k → k < 32
+below ops low (reads {at = at} {slot = k} {o = o} h r) = low_read o k (low_op ops at o low h) r
+below ops low (later h l w x) = below ops low x
+
+module _ (ops : List OpCode) (low : list_all reads_low ops ≡ true) (table : List ℕ) (exact : IsExact ops table) (k : ℕ) where
+  live_here : (b : Rest) → (is_live (with_live table b) k ≡ true) ↔ ReadsFirst ops b.at k
+  live_here b = (
+    λ e. let r = (exact b.at k).0 e in r.reads,
+    λ r. let first : IsReadFirst ops b.at k = record { small = below ops low r; reads = r } in (exact b.at k).1 first,
+  )
+
   live_at : (o : Option Rest) (rest : Rest) → option_map (with_live table) o ≡ Some rest → (is_live rest k ≡ true) ↔ ReadsFirst ops rest.at k
   live_at None rest e = absurd (let never : ⊥ = cc in never)
   live_at (Some b) rest e =
       let same : with_live table b ≡ rest = cc in
-      subst (λ (q : Rest). (is_live q k ≡ true) ↔ ReadsFirst ops q.at k) same (exact b.at k)
+      subst (λ (q : Rest). (is_live q k ≡ true) ↔ ReadsFirst ops q.at k) same (live_here b)
 
-live_in : (ops : List OpCode) (table : List ℕ) (rests : List Rest) → IsExact ops table → (r k : ℕ) (rest : Rest) → slice_get (map (with_live table) rests) r ≡ Some rest → (is_live rest k ≡ true) ↔ ReadsFirst ops rest.at k
-live_in ops table rests exact r k rest e =
-    live_at ops table exact k (slice_get rests r) rest (sym (slice_get-map (with_live table) rests r) ∙ e)
+live_in : (ops : List OpCode) (low : list_all reads_low ops ≡ true) (table : List ℕ) (rests : List Rest) → IsExact ops table → (r k : ℕ) (rest : Rest) → slice_get (map (with_live table) rests) r ≡ Some rest → (is_live rest k ≡ true) ↔ ReadsFirst ops rest.at k
+live_in ops low table rests exact r k rest e =
+    live_at ops low table exact k (slice_get rests r) rest (sym (slice_get-map (with_live table) rests r) ∙ e)
 
 same_places : (table : List ℕ) (rests : List Rest) → map (λ r. r.at) (map (with_live table) rests) ≡ map (λ r. r.at) rests
 same_places table [] = refl
@@ -195,7 +218,7 @@ same_owners : (table : List ℕ) (rests : List Rest) → map (λ r. r.door) (map
 same_owners table [] = refl
 same_owners table (r ∷ rests) = ap (λ l. r.door ∷ l) (same_owners table rests)
 
-module _ (p : Protocol) (code : Code) (is : code ≡ with_entries p no_code (entries_of p)) (table : List ℕ) (exact : IsExact code.ops table) where
+module _ (p : Protocol) (code : Code) (is : code ≡ with_entries p no_code (entries_of p)) (low : list_all reads_low code.ops ≡ true) (table : List ℕ) (exact : IsExact code.ops table) where
   draws : Draws p (entries_of p) code []
   draws = subst (λ c. Draws p (entries_of p) c []) (sym is) (drawn_all p (entries_of p) (entries_of p) no_code (begun p (entries_of p)))
 
@@ -206,12 +229,12 @@ module _ (p : Protocol) (code : Code) (is : code ≡ with_entries p no_code (ent
     doors = sym (append-nil code.doors) ∙ draws.doors;
     places = same_places table code.rests ∙ draws.places;
     owners = same_owners table code.rests ∙ sym (append-nil (map (λ (r : Rest). r.door) code.rests)) ∙ draws.owners;
-    live = live_in code.ops table code.rests exact;
+    live = live_in code.ops low table code.rests exact;
   }
 
 -- the code of all handlers with the live slots of its rests is that of the protocol
 pub complete : (p : Protocol) (code full : Code) → code ≡ with_entries p no_code (entries_of p) → HasLive code full → IsCode p full
-complete p code full is h = subst (IsCode p) (sym h.is) (complete_by p code is h.table h.exact)
+complete p code full is h = subst (IsCode p) (sym h.is) (complete_by p code is h.low h.table h.exact)
 
 pub complete_if : (p : Protocol) (code : Code) (r : Result Code Memory) → code ≡ with_entries p no_code (entries_of p) → IfOk r (HasLive code) → IfOk r (IsCode p)
 complete_if p code (Ok full) is h = complete p code full is h

@@ -1,11 +1,12 @@
 ghost use Rattle.std.specs.Prelude.{◌≡◌, ◌^◌, ◌<◌, IfOk, length, map};
+ghost use Rattle.std.specs.List.{list_all};
 ghost use Rattle.compiled_meaning.specs.Whole.{IsCode};
-ghost use Rattle.suspend_split.specs.Drafts.{HasLive, with_live};
+ghost use Rattle.suspend_split.specs.Drafts.{HasLive, reads_low, with_live};
 
 use crate::handlers::add_states;
-use crate::live::{bits_at, live_table};
 use crate::words::Words;
-use handler_code::{Code, Rest};
+use handler_code::{Code, OpCode, Rest};
+use live_slots::{live_table, slots_at};
 use std::alloc::Global;
 use teapot_tree::Checked;
 use tw_base::{Listed, Memory};
@@ -48,14 +49,34 @@ fn compiled(alloc: Global, p: &Checked) -> Result<Code, Memory>
     with_live(alloc, code)
 }
 
-/// The code with the live slots of its rests.
+/// The code with the live slots of its rests. There is none for code that reads a slot past the 32nd, which no protocol has.
 fn with_live(alloc: Global, code: Code) -> Result<Code, Memory>
     ensures { IfOk result (HasLive code) }
 {
     let Code { ops, doors, rests } = code;
+    if !all_read_low(ops.items()) {
+        return Err(Memory);
+    }
     let table = live_table(alloc, ops.items())?;
     let rests = live_rests(alloc, rests.items(), table.items())?;
     Ok(Code { ops, doors, rests })
+}
+
+/// Whether each op reads a slot below 32, if it reads one.
+fn all_read_low(ops: &[OpCode]) -> bool
+    ensures { result ≡ list_all reads_low ops.now }
+{
+    ops.iter().all(|op| reads_low(op))
+}
+
+fn reads_low(op: &OpCode) -> bool
+    ensures { result ≡ reads_low op.now }
+{
+    match op {
+        OpCode::Get(slot) => *slot < 32,
+        OpCode::EachNext(_, set, _) => *set < 32,
+        _ => true,
+    }
 }
 
 fn live_rests(alloc: Global, rests: &[Rest], table: &[u32]) -> Result<Listed<Rest>, Memory>
@@ -74,6 +95,6 @@ fn live_rest(rest: Rest, table: &[u32]) -> Rest
     Rest {
         at: rest.at,
         door: rest.door,
-        live: bits_at(table, rest.at as usize),
+        live: slots_at(table, rest.at as usize),
     }
 }

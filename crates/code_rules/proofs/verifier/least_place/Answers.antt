@@ -8,7 +8,7 @@ use Rattle.code_rules.proofs.RuleLemmas.{ok_then, op_rule}
 use Rattle.code_rules.proofs.verifier.least_place.Goals as goal
 
 pub returns-in-Rests : goal.returns-in-Rests
-returns-in-Rests c = subst (λ r. IsLeast (λ at. Breaks c.args.code.now c.args.p.now at r) c.first_unplaced.result) (sym c.in-Rests.is) c.first_unplaced.ensures
+returns-in-Rests c = subst (λ r. IfOk c.first_unplaced.result (λ o. IsLeast (λ at. Breaks c.args.code.now c.args.p.now at r) o)) (sym c.in-Rests.is) c.first_unplaced.ensures
 
 pub returns-in-Live : goal.returns-in-Live
 returns-in-Live c = subst (λ r. IfOk c.first_losing.result (λ o. IsLeast (λ at. Breaks c.args.code.now c.args.p.now at r) o)) (sym c.in-Live.is) c.first_losing.ensures

@@ -1,0 +1,34 @@
+use handler_code::{Code, Door, OpCode, Rest};
+
+/// What is changed in the code of a protocol.
+#[derive(Clone, Copy, Debug)]
+pub enum Change {
+    Op(usize, OpCode),
+    Door(usize, Door),
+    Rest(usize, Rest),
+    NoLastDoor,
+}
+
+/// Makes the change, if the code has what is changed.
+pub fn make(change: Change, code: &mut Code) {
+    match change {
+        Change::Op(at, op) => {
+            if at < code.ops.len() {
+                code.ops.set(at, op);
+            }
+        }
+        Change::Door(number, door) => {
+            if number < code.doors.len() {
+                code.doors.set(number, door);
+            }
+        }
+        Change::Rest(number, rest) => {
+            if number < code.rests.len() {
+                code.rests.set(number, rest);
+            }
+        }
+        Change::NoLastDoor => {
+            let _last = code.doors.pop();
+        }
+    }
+}
