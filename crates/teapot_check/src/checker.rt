@@ -1,15 +1,16 @@
-ghost use Rattle.std.specs.Prelude.{◌≡◌, IfOk};
+ghost use Rattle.std.specs.Prelude.{◌≡◌, map, IfOk};
 ghost use Rattle.std.specs.List.{flat_map};
-ghost use Rattle.teapot_tree.specs.declared.protocol.Handler.{Handler};
 ghost use Rattle.teapot_tree.specs.declared.protocol.State.{State};
 ghost use Rattle.teapot_tree.specs.Grammar.{IsTree};
 ghost use Rattle.teapot_check.specs.Answering.{IsAnswer};
+ghost use Rattle.teapot_check.specs.Handlers.{scopes_in};
 ghost use Rattle.teapot_rules.specs.Deeds.{scope_of};
-ghost use Rattle.teapot_rules.specs.Faults.{again_handlers, again_messages, again_params, again_states, in_handlers, lines};
+ghost use Rattle.teapot_rules.specs.Faults.{again_handlers, again_messages, again_params, again_states, lines};
 ghost use Rattle.teapot_rules.specs.Firsts.{all_rules, body_lines, first_of_rules, handler_lines, last_rules, sooner};
 ghost use Rattle.teapot_rules.specs.Lists.{least, lesser};
 
 use crate::again::{again, again_named};
+use crate::handlers::scopes_in;
 use crate::walk::walk;
 use std::alloc::Global;
 use teapot_rules::{
@@ -82,30 +83,13 @@ fn handler_line(alloc: Global, scope: &Scope, rule: Rule) -> Result<Option<u32>,
     }
 }
 
-fn in_state(
-    alloc: Global,
-    protocol: &Protocol,
-    state: &State,
-    rule: Rule,
-) -> Result<Option<u32>, Memory>
-    ensures { IfOk result (λ l. l ≡ least (flat_map (λ (h : Handler). handler_lines rule (record { protocol = protocol.now; state = state.now; handler = h })) state.now.handlers)) }
+/// The least line of a handler at which it breaks the rule.
+fn in_handlers(alloc: Global, scopes: &[Scope], rule: Rule) -> Result<Option<u32>, Memory>
+    ensures { IfOk result (λ l. l ≡ least (flat_map (λ c. handler_lines rule (scope_of c)) scopes.now)) }
 {
     let mut least = None;
-    let handlers = state.handlers.items();
-    for handler in handlers {
-        let scope = Scope::new(alloc, protocol, state, handler)?;
-        least = lesser(least, handler_line(alloc, &scope, rule)?);
-    }
-    Ok(least)
-}
-
-fn in_handlers(alloc: Global, protocol: &Protocol, rule: Rule) -> Result<Option<u32>, Memory>
-    ensures { IfOk result (λ l. l ≡ least (in_handlers (handler_lines rule) protocol.now)) }
-{
-    let mut least = None;
-    let states = protocol.states.items();
-    for state in states {
-        least = lesser(least, in_state(alloc, protocol, state, rule)?);
+    for scope in scopes {
+        least = lesser(least, handler_line(alloc, scope, rule)?);
     }
     Ok(least)
 }
@@ -120,10 +104,16 @@ fn twice_declared(p: &Protocol) -> Option<u32>
 }
 
 /// The least line at which the rule is broken.
-fn first_line(alloc: Global, p: &Protocol, rule: Rule) -> Result<Option<u32>, Memory>
+fn first_line(
+    alloc: Global,
+    p: &Protocol,
+    scopes: &[Scope],
+    rule: Rule,
+) -> Result<Option<u32>, Memory>
+    requires { map scope_of scopes.now ≡ scopes_in p.now }
     ensures { IfOk result (λ l. l ≡ least (lines p.now rule)) }
 {
-    let inner = in_handlers(alloc, p, rule)?;
+    let inner = in_handlers(alloc, scopes, rule)?;
     let states = p.states.items();
     match rule {
         Rule::Undeclared => Ok(lesser(undeclared_starts(p, p.starts.items()), inner)),
@@ -151,37 +141,42 @@ fn first_line(alloc: Global, p: &Protocol, rule: Rule) -> Result<Option<u32>, Me
 fn or_earlier(
     alloc: Global,
     p: &Protocol,
+    scopes: &[Scope],
     rule: Rule,
     later: Option<Fault>,
 ) -> Result<Option<Fault>, Memory>
+    requires { map scope_of scopes.now ≡ scopes_in p.now }
     ensures { IfOk result (λ f. f ≡ sooner (least (lines p.now rule)) rule later) }
 {
-    let line = first_line(alloc, p, rule)?;
+    let line = first_line(alloc, p, scopes, rule)?;
     Ok(sooner(line, rule, later))
 }
 
 /// The last six rules.
-fn first_of_last(alloc: Global, p: &Protocol) -> Result<Option<Fault>, Memory>
+fn first_of_last(alloc: Global, p: &Protocol, scopes: &[Scope]) -> Result<Option<Fault>, Memory>
+    requires { map scope_of scopes.now ≡ scopes_in p.now }
     ensures { IfOk result (λ f. f ≡ first_of_rules p.now last_rules) }
 {
-    let first = or_earlier(alloc, p, Rule::NotTwoStarts, None)?;
-    let first = or_earlier(alloc, p, Rule::TooManySends, first)?;
-    let first = or_earlier(alloc, p, Rule::NoData, first)?;
-    let first = or_earlier(alloc, p, Rule::AfterSuspend, first)?;
-    let first = or_earlier(alloc, p, Rule::ResumeForeign, first)?;
-    or_earlier(alloc, p, Rule::ResumeNotLast, first)
+    let first = or_earlier(alloc, p, scopes, Rule::NotTwoStarts, None)?;
+    let first = or_earlier(alloc, p, scopes, Rule::TooManySends, first)?;
+    let first = or_earlier(alloc, p, scopes, Rule::NoData, first)?;
+    let first = or_earlier(alloc, p, scopes, Rule::AfterSuspend, first)?;
+    let first = or_earlier(alloc, p, scopes, Rule::ResumeForeign, first)?;
+    or_earlier(alloc, p, scopes, Rule::ResumeNotLast, first)
 }
 
 fn first_fault(alloc: Global, p: &Protocol) -> Result<Option<Fault>, Memory>
     ensures { IfOk result (λ f. f ≡ first_of_rules p.now all_rules) }
 {
-    let first = first_of_last(alloc, p)?;
-    let first = or_earlier(alloc, p, Rule::ContDropped, first)?;
-    let first = or_earlier(alloc, p, Rule::NoDefault, first)?;
-    let first = or_earlier(alloc, p, Rule::ArgCount, first)?;
-    let first = or_earlier(alloc, p, Rule::WrongType, first)?;
-    let first = or_earlier(alloc, p, Rule::Twice, first)?;
-    or_earlier(alloc, p, Rule::Undeclared, first)
+    let scopes = scopes_in(alloc, p)?;
+    let scopes = scopes.items();
+    let first = first_of_last(alloc, p, scopes)?;
+    let first = or_earlier(alloc, p, scopes, Rule::ContDropped, first)?;
+    let first = or_earlier(alloc, p, scopes, Rule::NoDefault, first)?;
+    let first = or_earlier(alloc, p, scopes, Rule::ArgCount, first)?;
+    let first = or_earlier(alloc, p, scopes, Rule::WrongType, first)?;
+    let first = or_earlier(alloc, p, scopes, Rule::Twice, first)?;
+    or_earlier(alloc, p, scopes, Rule::Undeclared, first)
 }
 
 /// An accepted protocol unchanged, or its first break.

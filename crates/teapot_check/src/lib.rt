@@ -5,6 +5,7 @@
 mod again;
 mod checker;
 mod fits;
+mod handlers;
 mod walk;
 
 pub use checker::{CheckError, check};
