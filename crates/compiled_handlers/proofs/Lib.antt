@@ -2,7 +2,9 @@ pub mod Bounding
 pub mod Meaning
 pub mod Offering
 pub mod Ordering
-pub mod Staying
+pub mod Posting
+mod SameMessage
+mod Staying
 pub mod Widening
 pub mod Widths
 pub mod Writing

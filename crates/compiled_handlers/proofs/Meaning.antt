@@ -1,5 +1,5 @@
 -- What the code leaves at a block is what the message means there.
-use Rattle.std.proofs.Common.{◌≡◌, ◌∙◌, ℕ, ◌-◌, ◌<◌, ◌≤◌, List, ◌++◌, length, take, drop, ap, sym, subst}
+use Rattle.std.proofs.Common.{◌≡◌, ◌∙◌, ℕ, ◌-◌, ◌<◌, ◌≤◌, List, ◌++◌, length, take, drop, ap, sym, subst, arith}
 use Rattle.std.specs.Prelude.{◌^◌, map, replicate, slice_get}
 use Rattle.std.proofs.Math.Seq.{take-append_seam}
 use Rattle.std.proofs.lemmas.List.{length-map}
@@ -25,9 +25,11 @@ use Rattle.handler_vm.specs.declared.cell.Cell.{Cell}
 use Rattle.handler_vm.specs.declared.cell.Ran.{Ran}
 use Rattle.handler_vm.specs.Chains.{IsChain, saved_from, widened}
 use Rattle.handler_vm.specs.Leaves.{HasState, Leaves, Stops, StopsAt, kept_of}
+use Rattle.dsm_runs.specs.Messages.{message_of}
 use Rattle.compiled_handlers.specs.Lawful.{IsLawful}
 use Rattle.compiled_handlers.specs.Standing.{BlockStands, DoesAsMeant, IsBlockOf, Keeping}
 use Rattle.compiled_handlers.proofs.Bounding.{few_ops}
+use Rattle.compiled_handlers.proofs.Posting.{are_messages}
 use Rattle.compiled_handlers.proofs.Staying.{still_at}
 use Rattle.compiled_handlers.proofs.Widening.{chain_widened}
 use Rattle.compiled_handlers.proofs.Writing.{tag_written, words_full, words_written}
@@ -62,6 +64,16 @@ cell_left p code old new conts s e ends has chain typed =
 
 -- ---- the message at a block
 
+-- the machine stops, after few ops and with few sends
+pub record StopsSoon (p : Protocol) (code : Code) (me home : ℕ) (cell : Cell) (blocks : Copies) (conts : Store) (m : Message) : Type 0 where
+  pub stop : Stopped
+  pub stops : StopsAt p code me home cell blocks conts m stop
+  pub ops : stop.ops ≤ 2 ^ 62
+  pub sends : length stop.around.sends ≤ 288
+
+pub stops_of : (p : Protocol) (code : Code) (me home : ℕ) (cell : Cell) (blocks : Copies) (conts : Store) (m : Message) → StopsSoon p code me home cell blocks conts m → Stops p code me home cell blocks conts m
+stops_of p code me home cell blocks conts m s = record { stop = s.stop; stops = s.stops; ops = omega (arith, s.ops); sends = s.sends }
+
 module _ (p : Protocol) (code : Code) (lawful : IsLawful p code) (me home : ℕ) (cell : Cell) (blocks : Copies) (conts : Store) (m : Message) (whole : IsWhole blocks) (low : m.block < blocks.shape.blocks) (message : IsMessageOf p blocks.shape.words m) where
   abbrev pub old : Keeping
   old = record { cell = cell; blocks = blocks; conts = conts }
@@ -92,8 +104,8 @@ module _ (p : Protocol) (code : Code) (lawful : IsLawful p code) (me home : ℕ)
         let d : Enters p code me home m.block (tag_of blocks m.block) here.words kept chain m e = subst (λ t. Enters p code me home m.block t here.words kept chain m e) tag_is c in
         subst (λ ws. Enters p code me home m.block (tag_of blocks m.block) ws kept chain m e) words_are d
 
-    pub stops : length code.ops < 2 ^ 22 → Stops p code me home cell blocks conts m
-    stops short =
+    pub stops_soon : length code.ops < 2 ^ 22 → StopsSoon p code me home cell blocks conts m
+    stops_soon short =
         let meaning = (lawful.fit here m fits given).meaning in
         let e = meaning.end in
         let d = meaning.does in
@@ -113,8 +125,7 @@ module _ (p : Protocol) (code : Code) (lawful : IsLawful p code) (me home : ℕ)
       left : (s : Stopped) → EndStands p code s e → Leaves p me m cell new.cell blocks new.blocks new.conts sent ran s → DoesAsMeant p code me home m.block old new sent ran e
       left s ends l =
           record {
-            sends = l.sends.outs ∙ ap (λ a. a.sends) ends.around;
-            unsent = l.sends.unsent;
+            sends = are_messages p me m.block sent l.sends.unsent ∙ ap (map (message_of p me m.block 0)) (l.sends.outs ∙ ap (λ a. a.sends) ends.around);
             kept = ap (λ r. r.kept) l.result ∙ ap (λ a. a.kept) ends.around;
             freed = ap (λ r. r.freed) l.result ∙ ap (λ a. a.freed) ends.around;
             woke = ap (λ r. r.woke) l.result ∙ ap (λ a. a.woke) ends.around;

@@ -18,7 +18,8 @@ use Rattle.code_walks.specs.Stacks.{taken}
 use Rattle.code_rules.specs.Structure.{begins, rises_from}
 use Rattle.code_rules.proofs.Depthly.{Home, home}
 use Rattle.code_rules.proofs.Safely.{InPart, fitting}
-use Rattle.handler_vm.specs.Room.{HasDepth, HasPlaces, HasRoom, IsThere, put_by, taken_by}
+use Rattle.handler_code.specs.Stacks.{HasDepth, put_by, taken_by}
+use Rattle.handler_vm.specs.Room.{HasPlaces, HasRoom, IsThere}
 use Rattle.compiled_meaning.specs.Whole.{IsCode}
 use Rattle.compiled_rules.proofs.Facts.{fin_there, is_neat, rests_stand}
 use Rattle.compiled_rules.proofs.Handled.{Handled, handled, names_of}

@@ -1,5 +1,5 @@
 -- What a node keeps of a block, and the block of the meaning that it stands for.
-use Rattle.std.specs.Prelude.{ℕ, ◌≡◌, List, map, All}
+use Rattle.std.specs.Prelude.{ℕ, ◌≡◌, List, map}
 use Rattle.tw_base.specs.declared.message.Message.{Message}
 use Rattle.teapot_tree.specs.declared.protocol.Protocol.{Protocol}
 use Rattle.teapot_meaning.specs.declared.state.Ended.{Ended}
@@ -11,7 +11,7 @@ use Rattle.handler_vm.specs.declared.cell.Cell.{Cell}
 use Rattle.handler_vm.specs.declared.cell.Ran.{Ran}
 use Rattle.handler_vm.specs.Chains.{IsChain, saved_from}
 use Rattle.handler_vm.specs.Leaves.{kept_of}
-use Rattle.handler_vm.specs.Sending.{IsUnsent, out_of}
+use Rattle.dsm_runs.specs.Messages.{message_of}
 use Rattle.compiled_meaning.specs.Whole.{CellStands}
 
 -- what a node keeps of a block: the cell, the node's tags and words, and its records
@@ -36,8 +36,7 @@ pub record IsBlockOf (me home block : ℕ) (here : Here) : Type 0 where
 -- What was done is what the message means: the same sends in order, the same marks and end, the block's tag and words,
 -- and no other block's; and what is kept now stands for the block as the meaning leaves it, which is the same block.
 pub record DoesAsMeant (p : Protocol) (code : Code) (me home block : ℕ) (old new : Keeping) (sent : List Message) (ran : Ran) (e : Ended) : Type 0 where
-  pub sends : map out_of sent ≡ e.sends
-  pub unsent : All (IsUnsent p me block) sent
+  pub sends : sent ≡ map (message_of p me block 0) e.sends
   pub kept : ran.kept ≡ e.kept
   pub freed : ran.freed ≡ e.freed
   pub woke : ran.woke ≡ e.woke

@@ -4,9 +4,8 @@ ghost use Rattle.teapot_meaning.specs.Fits.{Fits, IsMessageOf};
 ghost use Rattle.teapot_meaning.specs.declared.state.Ended.{Ended};
 ghost use Rattle.teapot_meaning.specs.declared.state.Here.{Here};
 ghost use Rattle.handler_code.specs.Machine.{Stopped};
-ghost use Rattle.handler_vm.specs.Chains.{IsFull, KeepsOthers};
-ghost use Rattle.handler_vm.specs.Leaves.{StopsAt};
-ghost use Rattle.handler_vm.specs.Sending.{IsReady};
+ghost use Rattle.handler_vm.specs.Chains.{IsChain, KeepsOthers};
+ghost use Rattle.handler_vm.specs.Leaves.{Leaves, StopsAt};
 ghost use Rattle.compiled_meaning.specs.Whole.{IsCode};
 ghost use Rattle.compiled_handlers.specs.Standing.{BlockStands, DoesAsMeant, IsBlockOf};
 
@@ -21,8 +20,8 @@ use tw_base::{Message, NodeId};
 /// Handles a message for a block by the protocol's code. It takes no memory.
 ///
 /// What is done is what the message means at the block that the cell, its records, and the block's tag and words stand for,
-/// and what they are afterwards stands for the block that the meaning leaves. All other blocks and records stay. The ops and
-/// records are counted as the machine of ops counts them.
+/// and what they are afterwards stands for the block that the meaning leaves. It is the stop that the machine of ops comes
+/// to, with its counts of ops and records. All other blocks and records stay, and the chain of records is whole again.
 pub fn handle(
     code: &Code,
     p: &Checked,
@@ -41,19 +40,19 @@ pub fn handle(
         × Fits p.now here
         × BlockStands p.now code.now (record { cell = cell.old; blocks = blocks.old; conts = conts.old }) here }
     requires message { IsMessageOf p.now blocks.old.shape.words m.now }
-    requires full { IsFull blocks.old.shape.words m.now.payload }
     requires block { m.now.block < blocks.old.shape.blocks }
     requires spare { 1 ≤ conts.old.spare }
-    requires ready { IsReady around.old }
     ensures meant { (here : Here) (e : Ended) →
         IsBlockOf me home m.now.block here →
         Fits p.now here →
         BlockStands p.now code.now (record { cell = cell.old; blocks = blocks.old; conts = conts.old }) here →
         Does p.now here m.now e →
         DoesAsMeant p.now code.now me home m.now.block (record { cell = cell.old; blocks = blocks.old; conts = conts.old }) (record { cell = cell.new; blocks = blocks.new; conts = conts.new }) around.new.sent result e }
-    ensures counts { (e : Stopped) →
-        StopsAt p.now code.now me home cell.old blocks.old conts.old m.now e →
-        (result.ops ≡ e.ops) × (result.records ≡ e.records) }
+    ensures machine { (e : Stopped)
+        × StopsAt p.now code.now me home cell.old blocks.old conts.old m.now e
+        × Leaves p.now me m.now cell.old cell.new blocks.old blocks.new conts.new around.new.sent result e }
+    ensures few { result.ops ≤ 2 ^ 62 }
+    ensures chain { IsChain blocks.old.shape.words conts.new cell.new.cont }
     ensures others { KeepsOthers conts.old conts.new cell.old.cont cell.new.cont }
     ensures room { around.new.room ≡ around.old.room }
 {
