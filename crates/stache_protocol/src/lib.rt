@@ -1,6 +1,10 @@
 //! The shipped protocol: Stache, after the user-level shared memory of Tempest. `stache` reads its text and checks it.
 #![tactic(auto)]
 
+mod laws;
 mod shipped;
+mod text;
 
-pub use shipped::{stache, stache_text};
+pub use laws::shipped_text_is_stache;
+pub use shipped::stache;
+pub use text::stache_text;
