@@ -12,9 +12,13 @@ use Rattle.mini_asm.specs.declared.instr.Instr.{Instr}
 use Rattle.teapot_meaning.specs.declared.state.Here.{Here}
 use Rattle.tw_base.specs.declared.entry.Act.{Act}
 use Rattle.tw_base.specs.declared.entry.Act.TheVariants as act
+use Rattle.tw_base.specs.declared.entry.Entry.{Entry}
 use Rattle.tw_base.specs.declared.entry.Event.{Event}
 use Rattle.tw_base.specs.declared.entry.Event.TheVariants as event
 use Rattle.tw_base.specs.declared.entry.Trap.{Trap}
+use Rattle.dsm_model.specs.declared.handle.Made.{Made}
+use Rattle.dsm_model.specs.declared.outbox.Outbox.{Outbox}
+use Rattle.dsm_model.specs.Posts.{CanSend}
 use Rattle.dsm_model.specs.declared.local.Local.{Local as Node}
 use Rattle.dsm_runs.specs.declared.mode.Mode.{Mode}
 use Rattle.dsm_runs.specs.declared.mode.Mode.TheVariants as mode
@@ -194,3 +198,6 @@ write_is xs ys zs b i here words offset value same at read new is = (
 
 pub one_here : (o : Option Here) (x y : Here) → o ≡ Some x → o ≡ Some y → x ≡ y
 one_here o x y p q = cc
+
+pub sends_none : (outboxes : List Outbox) (made : Made) (e : Entry) → made ≡ record { entry = e; sends = [] } → CanSend outboxes made.sends
+sends_none outboxes made e is = subst (λ (m : Made). CanSend outboxes m.sends) (sym is) tt

@@ -96,6 +96,10 @@ pub outgoing-map : (p : Protocol) (i b stamp : ℕ) (os : List Out) → map (mes
 outgoing-map p i b stamp [] = refl
 outgoing-map p i b stamp (o ∷ os) = ap (λ (ms : List Message). message_of p i b stamp o ∷ ms) (outgoing-map p i b stamp os)
 
+pub mapped_from : (p : Protocol) (i b stamp n : ℕ) (os : List Out) → i < n → Each (λ m. m.from < n) (map (message_of p i b stamp) os)
+mapped_from p i b stamp n [] l = tt
+mapped_from p i b stamp n (o ∷ os) l = (l, mapped_from p i b stamp n os l)
+
 sends_for : (p : Protocol) (n i b stamp : ℕ) (os : List Out) (sends : List Message) → sends ≡ outgoing p i b stamp os → b < n → list_all (is_for n) sends ≡ true
 sends_for p n i b stamp os sends e lt = ap (λ (ms : List Message). list_all (is_for n) ms) e ∙ outgoing_for p n i b stamp os ((Decides-ltb b n).1 lt)
 

@@ -1,19 +1,19 @@
 -- Nodes and wires at the start.
-use Rattle.std.proofs.Common.{◌≡◌, ℕ, zero, suc, ◌<◌, ◌⊎◌, inl, inr, List, [], ◌∷◌, ◌++◌, length, map, replicate, Some, refl, ap, sym, ◌∙◌, subst, arith}
+use Rattle.std.proofs.Common.{◌≡◌, ℕ, zero, suc, ◌<◌, ◌⊎◌, inl, inr, List, [], ◌∷◌, ◌++◌, length, map, Some, refl, ap, sym, ◌∙◌, subst, arith}
 use Rattle.std.specs.Prelude.{slice_get, unwrap_or, All}
 use Rattle.std.specs.List.{range_with_len, slice_index_or}
 use Rattle.std.proofs.lemmas.Bool.{cases_lt}
-use Rattle.std.proofs.lemmas.List.{get_or_past, get_or-replicate, length-replicate}
+use Rattle.std.proofs.lemmas.List.{get_or_past}
 use Rattle.std.proofs.lemmas.List.Elements.{All-nil, All-cons}
 use Rattle.std.proofs.lemmas.List.FromFn.{get_or-map-range_with_len, length-map-range_with_len}
 use Rattle.std.proofs.lemmas.Option.{unwrap_or-slice_get}
 use Rattle.mini_asm.specs.Run.{IsInit}
 use Rattle.teapot_meaning.specs.declared.state.Here.{Here}
 use Rattle.tw_base.specs.declared.message.Chan.{Chan}
-use Rattle.tw_base.specs.declared.message.Message.{Message}
 use Rattle.dsm_model.specs.declared.local.Local.{Local as Node}
-use Rattle.dsm_model.specs.declared.row.Row.{Row}
+use Rattle.dsm_model.specs.declared.outbox.Outbox.{Outbox}
 use Rattle.dsm_runs.specs.Setups.{Setup}
+use Rattle.dsm_model.specs.Queues.{Held, nothing_held}
 use Rattle.dsm_model.specs.Kept.{AreSound, IsSound}
 use Rattle.dsm_runs.specs.Locals.{first}
 use Rattle.dsm_model.specs.Views.{AllRoom, HasRoom, local_of, locals_of, next_in, nexts_of, queue_of, wires_of}
@@ -56,35 +56,39 @@ sound_push s xs l so_far here i x at = elim (slice_get_push xs l i) [
 pub none_sound : (s : Setup) → AreSound s []
 none_sound s = λ i l at. absurd (cc)
 
-pub room_push : (xs : List Row) (r : Row) → AllRoom xs → HasRoom r → AllRoom (xs ++ r ∷ [])
+pub room_push : (xs : List Outbox) (r : Outbox) → AllRoom xs → HasRoom r → AllRoom (xs ++ r ∷ [])
 room_push xs r so_far here f x at = elim (slice_get_push xs r f) [
   | inl e ↦ so_far f x (sym e ∙ at)
   | inr p ↦ subst HasRoom (some_one r x (sym p.1 ∙ at)) here
 ]
   where
-    some_one : (a b : Row) → Some a ≡ Some b → a ≡ b
+    some_one : (a b : Outbox) → Some a ≡ Some b → a ≡ b
     some_one a b e = cc
 
-pub wires_push : (xs : List Row) (r : Row) → ((f t : ℕ) (c : Chan) → wires_of xs f t c ≡ []) → ((t : ℕ) (c : Chan) → queue_of r t c ≡ []) → (f t : ℕ) (c : Chan) → wires_of (xs ++ r ∷ []) f t c ≡ []
+pub wires_push : (xs : List Outbox) (r : Outbox) → ((f t : ℕ) (c : Chan) → wires_of xs f t c ≡ []) → ((t : ℕ) (c : Chan) → queue_of r t c ≡ []) → (f t : ℕ) (c : Chan) → wires_of (xs ++ r ∷ []) f t c ≡ []
 wires_push xs r so_far here f t c = elim (slice_get_push xs r f) [
   | inl e ↦ rw e (so_far f t c)
   | inr p ↦ rw p.1 (here t c)
 ]
 
-pub nexts_push : (xs : List Row) (r : Row) → ((f t : ℕ) (c : Chan) → nexts_of xs f t c ≡ 0) → ((t : ℕ) (c : Chan) → next_in r t c ≡ 0) → (f t : ℕ) (c : Chan) → nexts_of (xs ++ r ∷ []) f t c ≡ 0
+pub nexts_push : (xs : List Outbox) (r : Outbox) → ((f t : ℕ) (c : Chan) → nexts_of xs f t c ≡ 0) → ((t : ℕ) (c : Chan) → next_in r t c ≡ 0) → (f t : ℕ) (c : Chan) → nexts_of (xs ++ r ∷ []) f t c ≡ 0
 nexts_push xs r so_far here f t c = elim (slice_get_push xs r f) [
   | inl e ↦ rw e (so_far f t c)
   | inr p ↦ rw p.1 (here t c)
 ]
 
-pub no_rows : AllRoom []
-no_rows = λ f r at. absurd (cc)
+pub no_outboxes : AllRoom []
+no_outboxes = λ f r at. absurd (cc)
 
-abbrev pub nothing : List Message
-nothing = []
+-- these hold nothing
+abbrev pub AreEmpty : List Held → Type 0
+AreEmpty qs = (k : ℕ) → (slice_index_or qs k nothing_held).messages ≡ []
 
-pub empties : (n k : ℕ) → slice_index_or (replicate n nothing) k [] ≡ []
-empties n k = elim (cases_lt k n) [
-  | inl lt ↦ get_or-replicate n k nothing [] lt
-  | inr le ↦ get_or_past (replicate n nothing) k [] (omega (arith, length-replicate n nothing))
-]
+pub none_empty : AreEmpty []
+none_empty k = refl
+
+pub push_empty : (qs : List Held) (q : Held) → AreEmpty qs → q.messages ≡ [] → AreEmpty (qs ++ q ∷ [])
+push_empty [] q h e zero = e
+push_empty [] q h e (suc k) = refl
+push_empty (x ∷ xs) q h e zero = h zero
+push_empty (x ∷ xs) q h e (suc k) = push_empty xs q (λ j. h (suc j)) e k

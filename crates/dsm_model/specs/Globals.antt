@@ -8,4 +8,4 @@ abbrev pub setup_of : Global → Setup
 setup_of g = g.setup.now
 
 abbrev pub world_of : Global → World
-world_of g = state_of g.setup.now g.locals.items g.rows.items
+world_of g = state_of g.setup.now g.locals.items g.outboxes.items

@@ -6,7 +6,7 @@ use Rattle.tw_base.specs.declared.message.Message.{Message}
 use Rattle.teapot_meaning.specs.declared.state.Here.{Here}
 use Rattle.teapot_meaning.specs.declared.state.StateVal.{StateVal, fold-StateVal}
 use Rattle.dsm_model.specs.declared.local.Local.{Local as Node}
-use Rattle.dsm_model.specs.declared.row.Row.{Row}
+use Rattle.dsm_model.specs.declared.outbox.Outbox.{Outbox}
 use Rattle.dsm_runs.specs.Setups.{Setup}
 use Rattle.dsm_model.specs.Views.{AllRoom, nexts_of, wires_of}
 
@@ -36,14 +36,14 @@ sent_at None = 0
 sent_at (Some l) = l.sent
 
 -- no more messages are in flight than were sent
-pub record IsCounted (s : Setup) (locals : List Node) (rows : List Row) : Type 0 where
-  pub held : (f t : ℕ) (c : Chan) → length (wires_of rows f t c) ≤ nexts_of rows f t c
-  pub sent : (f t : ℕ) (c : Chan) → nexts_of rows f t c ≤ sent_at (slice_get locals f)
-  pub blocks : (f t : ℕ) (c : Chan) → list_all (is_for s.shape.blocks) (wires_of rows f t c) ≡ true
+pub record IsCounted (s : Setup) (locals : List Node) (outboxes : List Outbox) : Type 0 where
+  pub held : (f t : ℕ) (c : Chan) → length (wires_of outboxes f t c) ≤ nexts_of outboxes f t c
+  pub sent : (f t : ℕ) (c : Chan) → nexts_of outboxes f t c ≤ sent_at (slice_get locals f)
+  pub blocks : (f t : ℕ) (c : Chan) → list_all (is_for s.shape.blocks) (wires_of outboxes f t c) ≡ true
 
-pub record IsKept (s : Setup) (locals : List Node) (rows : List Row) : Type 0 where
+pub record IsKept (s : Setup) (locals : List Node) (outboxes : List Outbox) : Type 0 where
   pub nodes : length locals ≡ s.shape.nodes
-  pub senders : length rows ≡ s.shape.nodes
-  pub room : AllRoom rows
+  pub senders : length outboxes ≡ s.shape.nodes
+  pub room : AllRoom outboxes
   pub sound : AreSound s locals
-  pub counted : IsCounted s locals rows
+  pub counted : IsCounted s locals outboxes

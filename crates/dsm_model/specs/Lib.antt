@@ -1,3 +1,4 @@
+pub mod Queues
 pub mod Globals
 pub mod Views
 pub mod Kept

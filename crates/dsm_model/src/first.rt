@@ -27,7 +27,8 @@ fn zero_of(ty: ValType) -> Value
     }
 }
 
-fn zeros(alloc: Global, infos: &[Param]) -> Result<Listed<Value>, Memory>
+/// The values that variables of these types start with.
+pub fn zeros(alloc: Global, infos: &[Param]) -> Result<Listed<Value>, Memory>
     ensures { IfOk result (λ values. values ≡ map (λ info. zero_of info.ty) infos.now) }
 {
     let mut values = Listed::new(alloc);
@@ -38,7 +39,7 @@ fn zeros(alloc: Global, infos: &[Param]) -> Result<Listed<Value>, Memory>
 }
 
 /// How a block starts at its home, or elsewhere.
-fn start_line(setup: &Setup, home: bool) -> Option<&Start>
+pub fn start_line(setup: &Setup, home: bool) -> Option<&Start>
     ensures { option_copied result ≡ start_line setup.now home }
 {
     let starts = setup.protocol().protocol().starts.items();
@@ -49,7 +50,8 @@ fn start_line(setup: &Setup, home: bool) -> Option<&Start>
     }
 }
 
-fn start_state(setup: &Setup, home: bool) -> u8
+/// The number of the state that a block starts in, at its home or elsewhere.
+pub fn start_state(setup: &Setup, home: bool) -> u8
     ensures { result ≡ start_state setup.now (start_line setup.now home) }
 {
     match start_line(setup, home) {
@@ -58,7 +60,8 @@ fn start_state(setup: &Setup, home: bool) -> u8
     }
 }
 
-fn start_tag(setup: &Setup, home: bool) -> Tag
+/// The tag that a block starts with, at its home or elsewhere.
+pub fn start_tag(setup: &Setup, home: bool) -> Tag
     ensures { result ≡ start_tag (start_line setup.now home) }
 {
     match start_line(setup, home) {
@@ -68,7 +71,7 @@ fn start_tag(setup: &Setup, home: bool) -> Tag
 }
 
 /// The tags and words of a node at the start.
-fn first_copies(alloc: Global, setup: &Setup, me: NodeId) -> Result<Blocks, Memory>
+pub fn first_copies(alloc: Global, setup: &Setup, me: NodeId) -> Result<Blocks, Memory>
     ensures { IfOk result (λ copies. copies ≡ first_copies setup.now me) }
 {
     let home = start_tag(setup, true);

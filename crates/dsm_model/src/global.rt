@@ -1,4 +1,4 @@
-ghost use Rattle.std.specs.Prelude.{◌≡◌, ◌<◌, ◌^◌, ℕ, [], length, slice_get, IfOk};
+ghost use Rattle.std.specs.Prelude.{◌≡◌, ◌<◌, ◌^◌, ℕ, [], length, slice_get, IfOk, OnErr};
 ghost use Rattle.std.specs.Option.{option_copied};
 ghost use Rattle.tw_base.specs.declared.message.Chan.{Chan};
 ghost use Rattle.dsm_runs.specs.Locals.{first};
@@ -6,12 +6,13 @@ ghost use Rattle.dsm_model.specs.Kept.{AreSound, IsKept};
 ghost use Rattle.dsm_model.specs.Views.{AllRoom, wires_of, nexts_of, locals_of, local_of};
 
 use crate::first::first;
-use crate::instruct::{block_at, permits, place, word};
+use crate::instruct::{asked, block_at, permits, place, word};
 use crate::make::make;
+use crate::outbox::Outbox;
 use crate::queue::Queue;
-use crate::row::Row;
 use crate::wires::wire;
 use crate::{Local, Setup};
+use mini_asm::Next;
 use std::alloc;
 use teapot_meaning::Here;
 use tw_base::{BlockId, Chan, Entry, Event, Memory, Message, NodeId};
@@ -21,8 +22,8 @@ use tw_base::{BlockId, Chan, Entry, Event, Memory, Message, NodeId};
 pub struct Global<'a> {
     setup: &'a Setup,
     locals: Vec<Local>,
-    rows: Vec<Row>,
-    ghost kept: { IsKept setup.now locals.items rows.items },
+    outboxes: Vec<Outbox>,
+    ghost kept: { IsKept setup.now locals.items outboxes.items },
 }
 
 /// The nodes at the start.
@@ -40,24 +41,24 @@ fn first_locals(alloc: alloc::Global, setup: &Setup) -> Result<Vec<Local>, Memor
 }
 
 /// Empty wires from each node.
-fn first_rows(alloc: alloc::Global, count: usize) -> Result<Vec<Row>, Memory>
-    ensures count { IfOk result (λ rows. length rows.items ≡ count) }
-    ensures room { IfOk result (λ rows. AllRoom rows.items) }
-    ensures empty { IfOk result (λ rows. (f t : ℕ) (c : Chan) → wires_of rows.items f t c ≡ []) }
-    ensures first { IfOk result (λ rows. (f t : ℕ) (c : Chan) → nexts_of rows.items f t c ≡ 0) }
+fn first_outboxes(alloc: alloc::Global, count: usize) -> Result<Vec<Outbox>, Memory>
+    ensures count { IfOk result (λ outboxes. length outboxes.items ≡ count) }
+    ensures room { IfOk result (λ outboxes. AllRoom outboxes.items) }
+    ensures empty { IfOk result (λ outboxes. (f t : ℕ) (c : Chan) → wires_of outboxes.items f t c ≡ []) }
+    ensures first { IfOk result (λ outboxes. (f t : ℕ) (c : Chan) → nexts_of outboxes.items f t c ≡ 0) }
 {
-    let mut rows = Vec::new(alloc);
+    let mut outboxes = Vec::new(alloc);
     for made in 0..count {
-        rows.push(Row::new(alloc)?)?;
+        outboxes.push(Outbox::new(alloc)?)?;
     }
-    Ok(rows)
+    Ok(outboxes)
 }
 
 impl<'a> Global<'a> {
     ghost use Rattle.block_tags.specs.Copies.{permits};
     ghost use Rattle.dsm_model.specs.Globals.{setup_of, world_of};
     ghost use Rattle.dsm_runs.specs.Events.{word_here};
-    ghost use Rattle.dsm_runs.specs.Setups.{size_of};
+    ghost use Rattle.dsm_runs.specs.Setups.{asked, size_of};
     ghost use Rattle.dsm_runs.specs.Worlds.{IsEnabled, Step, event_of, start};
 
     /// The state at the start.
@@ -66,11 +67,11 @@ impl<'a> Global<'a> {
         ensures world { IfOk result (λ g. world_of g ≡ start setup.now) }
     {
         let locals = first_locals(alloc, setup)?;
-        let rows = first_rows(alloc, setup.shape().nodes() as usize)?;
+        let outboxes = first_outboxes(alloc, setup.shape().nodes() as usize)?;
         Ok(Global {
             setup,
             locals,
-            rows,
+            outboxes,
         })
     }
 
@@ -86,6 +87,14 @@ impl<'a> Global<'a> {
         ensures { local_of (setup_of self.now) node result.now ≡ (world_of self.now).locals node }
     {
         &self.locals[usize::from(node.get())]
+    }
+
+    /// What the next instruction of a node asks for.
+    pub fn asked(&self, node: NodeId) -> Next
+        requires { node < (setup_of self.now).shape.nodes }
+        ensures { result ≡ asked (setup_of self.now) node ((world_of self.now).locals node).cpu }
+    {
+        asked(self.setup, node, &self.local(node).cpu)
     }
 
     /// A block at a node.
@@ -118,9 +127,9 @@ impl<'a> Global<'a> {
 
     fn wire(&self, from: NodeId, to: NodeId, chan: Chan) -> &Queue
         requires { from < (setup_of self.now).shape.nodes }
-        ensures { result.now ≡ (world_of self.now).wires from to chan }
+        ensures { result.now.messages ≡ (world_of self.now).wires from to chan }
     {
-        wire(&self.rows, from, to, chan)
+        wire(&self.outboxes, from, to, chan)
     }
 
     /// How many messages are in flight on a wire.
@@ -144,7 +153,8 @@ impl<'a> Global<'a> {
         requires { IsEnabled (setup_of self.old) (world_of self.old) e }
         ensures setup { setup_of self.new ≡ setup_of self.old }
         ensures step { IfOk result (λ entry. (event_of entry ≡ e) × Step (setup_of self.old) (world_of self.old) entry (world_of self.new)) }
+        ensures err { OnErr result (world_of self.new ≡ world_of self.old) }
     {
-        make(alloc, self.setup, &mut self.locals, &mut self.rows, e)
+        make(alloc, self.setup, &mut self.locals, &mut self.outboxes, e)
     }
 }

@@ -4,7 +4,11 @@ ghost use Rattle.dsm_runs.specs.Events.{failure, freed_if, mode_after, with_kept
 ghost use Rattle.dsm_model.specs.Kept.{is_served};
 ghost use Rattle.dsm_model.specs.Makes.{IsHandling, handled_entry, handled_node};
 ghost use Rattle.dsm_runs.specs.Messages.{chan_of, fault, message_of, outgoing};
+ghost use Rattle.dsm_model.specs.Posts.{CanSend, HaveMadeRoom};
+ghost use Rattle.dsm_model.specs.Views.{AllRoom};
 
+use crate::outbox::Outbox;
+use crate::wires::reserve_all;
 use crate::{Deferred, Local, Mode, Setup, Waiting};
 use std::alloc::Global;
 use teapot_interpreter::run;
@@ -161,9 +165,11 @@ fn mode_after(woke: bool, block: BlockId, mode: Mode) -> Mode
     }
 }
 
-/// Handles a message at a block. Nothing changes at the node.
+/// Handles a message at a block, and makes room on the wires for what is sent. Nothing changes at the node, and no
+/// message on a wire.
 ///
 /// Want of memory is the only error, and a handler that sends 65,536 messages or more is taken as such.
+#[tactic(auto, using(crate::proofs::Posting::room_none))]
 pub fn handle(
     alloc: Global,
     setup: &Setup,
@@ -171,9 +177,14 @@ pub fn handle(
     stamp: u64,
     message: &Message,
     here: &Here,
+    outboxes: &mut [Outbox],
 ) -> Result<Handling, Memory>
-    requires { is_served setup.now here.now ≡ true }
-    ensures { IfOk result (IsHandling setup.now me stamp message.now here.now) }
+    requires served { is_served setup.now here.now ≡ true }
+    requires me { me < length outboxes.old }
+    requires room { AllRoom outboxes.old }
+    ensures handling { IfOk result (IsHandling setup.now me stamp message.now here.now) }
+    ensures same { HaveMadeRoom outboxes.old outboxes.new }
+    ensures ready { IfOk result (λ handling. CanSend outboxes.new handling.sends) }
 {
     let protocol = setup.protocol();
     let ended = run(alloc, protocol, here, message)?;
@@ -182,6 +193,7 @@ pub fn handle(
     if sends.len() > usize::from(u16::MAX) {
         return Err(Memory);
     }
+    reserve_all(outboxes, sends.items())?;
     Ok(Handling { ended, sends })
 }
 

@@ -9,9 +9,11 @@ ghost use Rattle.dsm_model.specs.Kept.{IsSound};
 ghost use Rattle.dsm_runs.specs.Locals.{MayInstruct, last_stamp};
 ghost use Rattle.dsm_model.specs.Makes.{IsMade, done_entry, done_node};
 ghost use Rattle.dsm_runs.specs.Setups.{asked, block_of, finished, offset_of, program_at, size_of};
-ghost use Rattle.dsm_model.specs.Views.{local_of};
+ghost use Rattle.dsm_model.specs.Posts.{CanSend, HaveMadeRoom};
+ghost use Rattle.dsm_model.specs.Views.{AllRoom, local_of};
 
 use crate::handle::{Made, adopt, defer, fault_of, handle};
+use crate::outbox::Outbox;
 use crate::{Local, Mode, Setup};
 use mini_asm::{Cpu, Next, Program};
 use std::alloc::Global;
@@ -27,7 +29,7 @@ fn program(setup: &Setup, me: NodeId) -> &Program
 }
 
 /// What the next instruction of a node asks for.
-fn asked(setup: &Setup, me: NodeId, cpu: &Cpu) -> Next
+pub fn asked(setup: &Setup, me: NodeId, cpu: &Cpu) -> Next
     requires { me < setup.now.shape.nodes }
     ensures { result ≡ asked setup.now me cpu.now }
 {
@@ -143,19 +145,24 @@ fn fault(
     l: &mut Local,
     store: bool,
     block: BlockId,
+    outboxes: &mut [Outbox],
 ) -> Result<Made, Memory>
     requires me { me < setup.now.shape.nodes }
     requires may { MayInstruct setup.now (local_of setup.now me l.old) }
     requires sound { IsSound setup.now l.old }
     requires block { block < setup.now.shape.blocks }
     requires refused { IsRefused setup.now (asked setup.now me l.old.cpu) store block ((local_of setup.now me l.old).blocks block).tag }
+    requires senders { length outboxes.old ≡ setup.now.shape.nodes }
+    requires room { AllRoom outboxes.old }
     ensures made { IfOk result (λ made. IsMade setup.now me (event.Instr me) l.old None l.new made) }
+    ensures same { HaveMadeRoom outboxes.old outboxes.new }
+    ensures ready { IfOk result (λ made. CanSend outboxes.new made.sends) }
     ensures err { OnErr result (l.new ≡ l.old) }
 {
     let message = fault_of(store, block, me);
     let stamp = l.clock + 1;
     let here = block_at(l, block);
-    let handling = handle(alloc, setup, me, stamp, &message, here)?;
+    let handling = handle(alloc, setup, me, stamp, &message, here, outboxes)?;
     defer(&mut l.deferred, &handling.ended, &message)?;
     let shape = setup.shape();
     let _limits = (shape.budget(), shape.handler_budget());
@@ -165,30 +172,37 @@ fn fault(
     Ok(adopt(l, me, act, block, stamp, handling))
 }
 
+#[tactic(auto, using(crate::proofs::Posting::room_none, crate::proofs::Completing::sends_none))]
 fn load(
     alloc: Global,
     setup: &Setup,
     me: NodeId,
     l: &mut Local,
     address: u32,
+    outboxes: &mut [Outbox],
 ) -> Result<Made, Memory>
     requires me { me < setup.now.shape.nodes }
     requires may { MayInstruct setup.now (local_of setup.now me l.old) }
     requires sound { IsSound setup.now l.old }
     requires asks { asked setup.now me l.old.cpu ≡ next.Access false address 0 }
+    requires senders { length outboxes.old ≡ setup.now.shape.nodes }
+    requires room { AllRoom outboxes.old }
     ensures made { IfOk result (λ made. IsMade setup.now me (event.Instr me) l.old None l.new made) }
+    ensures same { HaveMadeRoom outboxes.old outboxes.new }
+    ensures ready { IfOk result (λ made. CanSend outboxes.new made.sends) }
     ensures err { OnErr result (l.new ≡ l.old) }
 {
     let (block, offset) = place(setup, address);
     let here = block_at(l, block);
     if !permits(here.tag, false) {
-        return fault(alloc, setup, me, l, false, block);
+        return fault(alloc, setup, me, l, false, block, outboxes);
     }
     let value = word(here.words, offset);
     let act = Act::Load { address, value };
     Ok(complete(alloc, setup, me, l, act, value))
 }
 
+#[tactic(auto, using(crate::proofs::Posting::room_none, crate::proofs::Completing::sends_none))]
 fn store(
     alloc: Global,
     setup: &Setup,
@@ -196,17 +210,22 @@ fn store(
     l: &mut Local,
     address: u32,
     value: u64,
+    outboxes: &mut [Outbox],
 ) -> Result<Made, Memory>
     requires me { me < setup.now.shape.nodes }
     requires may { MayInstruct setup.now (local_of setup.now me l.old) }
     requires sound { IsSound setup.now l.old }
     requires asks { asked setup.now me l.old.cpu ≡ next.Access true address value }
+    requires senders { length outboxes.old ≡ setup.now.shape.nodes }
+    requires room { AllRoom outboxes.old }
     ensures made { IfOk result (λ made. IsMade setup.now me (event.Instr me) l.old None l.new made) }
+    ensures same { HaveMadeRoom outboxes.old outboxes.new }
+    ensures ready { IfOk result (λ made. CanSend outboxes.new made.sends) }
     ensures err { OnErr result (l.new ≡ l.old) }
 {
     let (block, offset) = place(setup, address);
     if !permits(block_at(l, block).tag, true) {
-        return fault(alloc, setup, me, l, true, block);
+        return fault(alloc, setup, me, l, true, block, outboxes);
     }
     write(alloc, l, block, offset, value);
     let act = Act::Store { address, value };
@@ -214,6 +233,7 @@ fn store(
 }
 
 /// A word is loaded, and the sum of it and what is added is stored.
+#[tactic(auto, using(crate::proofs::Posting::room_none, crate::proofs::Completing::sends_none))]
 fn fetch_and_add(
     alloc: Global,
     setup: &Setup,
@@ -221,18 +241,23 @@ fn fetch_and_add(
     l: &mut Local,
     address: u32,
     added: u64,
+    outboxes: &mut [Outbox],
 ) -> Result<Made, Memory>
     requires me { me < setup.now.shape.nodes }
     requires may { MayInstruct setup.now (local_of setup.now me l.old) }
     requires sound { IsSound setup.now l.old }
     requires asks { asked setup.now me l.old.cpu ≡ next.Faa address added }
+    requires senders { length outboxes.old ≡ setup.now.shape.nodes }
+    requires room { AllRoom outboxes.old }
     ensures made { IfOk result (λ made. IsMade setup.now me (event.Instr me) l.old None l.new made) }
+    ensures same { HaveMadeRoom outboxes.old outboxes.new }
+    ensures ready { IfOk result (λ made. CanSend outboxes.new made.sends) }
     ensures err { OnErr result (l.new ≡ l.old) }
 {
     let (block, offset) = place(setup, address);
     let here = block_at(l, block);
     if !permits(here.tag, true) {
-        return fault(alloc, setup, me, l, true, block);
+        return fault(alloc, setup, me, l, true, block, outboxes);
     }
     let value = word(here.words, offset);
     let sum = value.wrapping_add(added);
@@ -246,11 +271,22 @@ fn fetch_and_add(
 }
 
 /// The node makes its instruction event, which is enabled. After an Err it is as before.
-pub fn instruct(alloc: Global, setup: &Setup, me: NodeId, l: &mut Local) -> Result<Made, Memory>
+#[tactic(auto, using(crate::proofs::Posting::room_none, crate::proofs::Completing::sends_none))]
+pub fn instruct(
+    alloc: Global,
+    setup: &Setup,
+    me: NodeId,
+    l: &mut Local,
+    outboxes: &mut [Outbox],
+) -> Result<Made, Memory>
     requires me { me < setup.now.shape.nodes }
     requires may { MayInstruct setup.now (local_of setup.now me l.old) }
     requires sound { IsSound setup.now l.old }
+    requires senders { length outboxes.old ≡ setup.now.shape.nodes }
+    requires room { AllRoom outboxes.old }
     ensures made { IfOk result (λ made. IsMade setup.now me (event.Instr me) l.old None l.new made) }
+    ensures same { HaveMadeRoom outboxes.old outboxes.new }
+    ensures ready { IfOk result (λ made. CanSend outboxes.new made.sends) }
     ensures err { OnErr result (l.new ≡ l.old) }
 {
     match asked(setup, me, &l.cpu) {
@@ -258,9 +294,11 @@ pub fn instruct(alloc: Global, setup: &Setup, me: NodeId, l: &mut Local) -> Resu
             store: true,
             address,
             value,
-        } => store(alloc, setup, me, l, address, value),
-        Next::Access { address, .. } => load(alloc, setup, me, l, address),
-        Next::Faa { address, added } => fetch_and_add(alloc, setup, me, l, address, added),
+        } => store(alloc, setup, me, l, address, value, outboxes),
+        Next::Access { address, .. } => load(alloc, setup, me, l, address, outboxes),
+        Next::Faa { address, added } => fetch_and_add(
+            alloc, setup, me, l, address, added, outboxes,
+        ),
         Next::Trap(why) => {
             let act = Act::Trapped { why };
             Ok(stop(alloc, setup, me, l, Mode::Trapped(why), act))

@@ -1,11 +1,11 @@
-ghost use Rattle.std.specs.Prelude.{◌≡◌, ◌<◌, IfOk, length};
+ghost use Rattle.std.specs.Prelude.{◌≡◌, ◌<◌, IfOk, OnErr, length};
 ghost use Rattle.tw_base.specs.declared.entry.Event.TheVariants as event;
 ghost use Rattle.dsm_model.specs.Kept.{IsKept};
 ghost use Rattle.dsm_model.specs.Views.{state_of};
 ghost use Rattle.dsm_runs.specs.Worlds.{IsEnabled, Step, event_of};
 
 use crate::instruct::instruct;
-use crate::row::Row;
+use crate::outbox::Outbox;
 use crate::take::{deliver, redeliver};
 use crate::wires::{send_all, take, wire};
 use crate::{Local, Setup};
@@ -17,16 +17,23 @@ fn make_instruction(
     alloc: Global,
     setup: &Setup,
     locals: &mut [Local],
-    rows: &mut [Row],
+    outboxes: &mut [Outbox],
     node: NodeId,
 ) -> Result<Entry, Memory>
-    requires kept { IsKept setup.now locals.old rows.old }
-    requires enabled { IsEnabled setup.now (state_of setup.now locals.old rows.old) (event.Instr node) }
-    ensures kept { IsKept setup.now locals.new rows.new }
-    ensures step { IfOk result (λ entry. (event_of entry ≡ event.Instr node) × Step setup.now (state_of setup.now locals.old rows.old) entry (state_of setup.now locals.new rows.new)) }
+    requires kept { IsKept setup.now locals.old outboxes.old }
+    requires enabled { IsEnabled setup.now (state_of setup.now locals.old outboxes.old) (event.Instr node) }
+    ensures kept { IsKept setup.now locals.new outboxes.new }
+    ensures step { IfOk result (λ entry. (event_of entry ≡ event.Instr node) × Step setup.now (state_of setup.now locals.old outboxes.old) entry (state_of setup.now locals.new outboxes.new)) }
+    ensures err { OnErr result (state_of setup.now locals.new outboxes.new ≡ state_of setup.now locals.old outboxes.old) }
 {
-    let made = instruct(alloc, setup, node, &mut locals[usize::from(node.get())])?;
-    send_all(rows, made.sends.items())?;
+    let made = instruct(
+        alloc,
+        setup,
+        node,
+        &mut locals[usize::from(node.get())],
+        outboxes,
+    )?;
+    send_all(outboxes, made.sends.items());
     Ok(made.entry)
 }
 
@@ -35,16 +42,23 @@ fn make_redelivery(
     alloc: Global,
     setup: &Setup,
     locals: &mut [Local],
-    rows: &mut [Row],
+    outboxes: &mut [Outbox],
     node: NodeId,
 ) -> Result<Entry, Memory>
-    requires kept { IsKept setup.now locals.old rows.old }
-    requires enabled { IsEnabled setup.now (state_of setup.now locals.old rows.old) (event.Redeliver node) }
-    ensures kept { IsKept setup.now locals.new rows.new }
-    ensures step { IfOk result (λ entry. (event_of entry ≡ event.Redeliver node) × Step setup.now (state_of setup.now locals.old rows.old) entry (state_of setup.now locals.new rows.new)) }
+    requires kept { IsKept setup.now locals.old outboxes.old }
+    requires enabled { IsEnabled setup.now (state_of setup.now locals.old outboxes.old) (event.Redeliver node) }
+    ensures kept { IsKept setup.now locals.new outboxes.new }
+    ensures step { IfOk result (λ entry. (event_of entry ≡ event.Redeliver node) × Step setup.now (state_of setup.now locals.old outboxes.old) entry (state_of setup.now locals.new outboxes.new)) }
+    ensures err { OnErr result (state_of setup.now locals.new outboxes.new ≡ state_of setup.now locals.old outboxes.old) }
 {
-    let made = redeliver(alloc, setup, node, &mut locals[usize::from(node.get())])?;
-    send_all(rows, made.sends.items())?;
+    let made = redeliver(
+        alloc,
+        setup,
+        node,
+        &mut locals[usize::from(node.get())],
+        outboxes,
+    )?;
+    send_all(outboxes, made.sends.items());
     Ok(made.entry)
 }
 
@@ -53,21 +67,22 @@ fn make_delivery(
     alloc: Global,
     setup: &Setup,
     locals: &mut [Local],
-    rows: &mut [Row],
+    outboxes: &mut [Outbox],
     at: NodeId,
     from: NodeId,
     chan: Chan,
 ) -> Result<Entry, Memory>
-    requires kept { IsKept setup.now locals.old rows.old }
-    requires enabled { IsEnabled setup.now (state_of setup.now locals.old rows.old) (event.Deliver at from chan) }
-    ensures kept { IsKept setup.now locals.new rows.new }
-    ensures step { IfOk result (λ entry. (event_of entry ≡ event.Deliver at from chan) × Step setup.now (state_of setup.now locals.old rows.old) entry (state_of setup.now locals.new rows.new)) }
+    requires kept { IsKept setup.now locals.old outboxes.old }
+    requires enabled { IsEnabled setup.now (state_of setup.now locals.old outboxes.old) (event.Deliver at from chan) }
+    ensures kept { IsKept setup.now locals.new outboxes.new }
+    ensures step { IfOk result (λ entry. (event_of entry ≡ event.Deliver at from chan) × Step setup.now (state_of setup.now locals.old outboxes.old) entry (state_of setup.now locals.new outboxes.new)) }
+    ensures err { OnErr result (state_of setup.now locals.new outboxes.new ≡ state_of setup.now locals.old outboxes.old) }
 {
-    let message = *wire(rows, from, at, chan).get(0).unwrap();
+    let message = *wire(outboxes, from, at, chan).get(0).unwrap();
     let node = &mut locals[usize::from(at.get())];
-    let made = deliver(alloc, setup, at, node, &message, from, chan)?;
-    take(rows, from, at, chan);
-    send_all(rows, made.sends.items())?;
+    let made = deliver(alloc, setup, at, node, &message, from, chan, outboxes)?;
+    take(outboxes, from, at, chan);
+    send_all(outboxes, made.sends.items());
     Ok(made.entry)
 }
 
@@ -76,19 +91,20 @@ pub fn make(
     alloc: Global,
     setup: &Setup,
     locals: &mut [Local],
-    rows: &mut [Row],
+    outboxes: &mut [Outbox],
     e: Event,
 ) -> Result<Entry, Memory>
-    requires kept { IsKept setup.now locals.old rows.old }
-    requires enabled { IsEnabled setup.now (state_of setup.now locals.old rows.old) e }
-    ensures kept { IsKept setup.now locals.new rows.new }
-    ensures step { IfOk result (λ entry. (event_of entry ≡ e) × Step setup.now (state_of setup.now locals.old rows.old) entry (state_of setup.now locals.new rows.new)) }
+    requires kept { IsKept setup.now locals.old outboxes.old }
+    requires enabled { IsEnabled setup.now (state_of setup.now locals.old outboxes.old) e }
+    ensures kept { IsKept setup.now locals.new outboxes.new }
+    ensures step { IfOk result (λ entry. (event_of entry ≡ e) × Step setup.now (state_of setup.now locals.old outboxes.old) entry (state_of setup.now locals.new outboxes.new)) }
+    ensures err { OnErr result (state_of setup.now locals.new outboxes.new ≡ state_of setup.now locals.old outboxes.old) }
 {
     match e {
-        Event::Instr(node) => make_instruction(alloc, setup, locals, rows, node),
-        Event::Redeliver(node) => make_redelivery(alloc, setup, locals, rows, node),
+        Event::Instr(node) => make_instruction(alloc, setup, locals, outboxes, node),
+        Event::Redeliver(node) => make_redelivery(alloc, setup, locals, outboxes, node),
         Event::Deliver { at, from, chan } => {
-            make_delivery(alloc, setup, locals, rows, at, from, chan)
+            make_delivery(alloc, setup, locals, outboxes, at, from, chan)
         }
     }
 }

@@ -24,7 +24,8 @@ fn outcome_in(mode: Mode, spent: bool) -> Outcome
     }
 }
 
-fn outcome_by(failed: Option<End>, mode: Mode, spent: bool) -> Outcome
+/// How a node ended, by how a handler failed there, what its processor does, and whether it spent its budget.
+pub fn outcome_by(failed: Option<End>, mode: Mode, spent: bool) -> Outcome
     ensures { result ≡ outcome_by failed mode spent }
 {
     match failed {

@@ -1,54 +1,78 @@
-ghost use Rattle.std.specs.Prelude.{◌≡◌, ◌<◌, ◌+◌, ◌-◌, ◌^◌, ◌∷◌, [], ℕ, length, IfOk, OnOk, OnErr, slice_get};
+ghost use Rattle.std.specs.Prelude.{◌≡◌, ◌<◌, ◌≤◌, ◌+◌, ◌-◌, ◌^◌, ◌∷◌, [], ℕ, length, OnOk, slice_get};
 ghost use Rattle.std.specs.List.{list_all};
 ghost use Rattle.std.specs.Option.{option_copied};
 ghost use Rattle.tw_base.specs.Lists.{Each};
 ghost use Rattle.tw_base.specs.declared.message.Chan.{Chan};
-ghost use Rattle.dsm_model.specs.Posts.{HasBegun, HasSent, HasTaken};
-ghost use Rattle.dsm_model.specs.Views.{AllRoom, nexts_of, wires_of};
+ghost use Rattle.dsm_model.specs.Posts.{CanSend, HasSent, HasTaken, HaveMadeRoom};
+ghost use Rattle.dsm_model.specs.Views.{AllRoom, nexts_of, rooms_of, wires_of};
 
+use crate::outbox::Outbox;
 use crate::queue::Queue;
-use crate::row::Row;
 use tw_base::{Chan, Memory, Message, NodeId};
 
 /// The messages on a wire.
-pub fn wire(rows: &[Row], from: NodeId, to: NodeId, chan: Chan) -> &Queue
-    requires from { from < length rows.now }
-    requires room { AllRoom rows.now }
-    ensures { result.now ≡ wires_of rows.now from to chan }
+pub fn wire(outboxes: &[Outbox], from: NodeId, to: NodeId, chan: Chan) -> &Queue
+    requires from { from < length outboxes.now }
+    requires room { AllRoom outboxes.now }
+    ensures { result.now.messages ≡ wires_of outboxes.now from to chan }
 {
-    rows[usize::from(from.get())].queue(to, chan)
+    outboxes[usize::from(from.get())].queue(to, chan)
 }
 
 /// Takes the oldest message off a wire.
-pub fn take(rows: &mut [Row], from: NodeId, to: NodeId, chan: Chan) -> Option<Message>
-    requires from { from < length rows.old }
-    requires room { AllRoom rows.old }
-    ensures { HasTaken rows.old rows.new from to chan result }
+pub fn take(outboxes: &mut [Outbox], from: NodeId, to: NodeId, chan: Chan) -> Option<Message>
+    requires from { from < length outboxes.old }
+    requires room { AllRoom outboxes.old }
+    ensures { HasTaken outboxes.old outboxes.new from to chan result }
 {
-    rows[usize::from(from.get())].take(to, chan)
+    outboxes[usize::from(from.get())].take(to, chan)
 }
 
-/// Puts a message on its wire.
-fn send(rows: &mut [Row], message: Message) -> Result<(), Memory>
-    requires from { message.from < length rows.old }
-    requires room { AllRoom rows.old }
-    requires few { nexts_of rows.old message.from message.to message.chan < 2 ^ 64 - 1 }
-    ensures ok { OnOk result (HasSent rows.old rows.new (message ∷ [])) }
-    ensures err { OnErr result (HasSent rows.old rows.new []) }
+/// Makes room for as many messages more on the wire of a message.
+fn reserve(outboxes: &mut [Outbox], message: &Message, count: usize) -> Result<(), Memory>
+    requires from { message.now.from < length outboxes.old }
+    requires room { AllRoom outboxes.old }
+    ensures same { HaveMadeRoom outboxes.old outboxes.new }
+    ensures ok { OnOk result (length (wires_of outboxes.new message.now.from message.now.to message.now.chan) + count
+        ≤ rooms_of outboxes.new message.now.from message.now.to message.now.chan) }
 {
-    rows[usize::from(message.from.get())].post(message)
+    outboxes[usize::from(message.from.get())].reserve(message.to, message.chan, count)
 }
 
-/// Puts messages on their wires. After an Err the first of them are there.
-pub fn send_all(rows: &mut [Row], sends: &[Message]) -> Result<(), Memory>
-    requires from { Each (λ m. m.from < length rows.old) sends.now }
-    requires room { AllRoom rows.old }
-    requires few { (f t : ℕ) (c : Chan) → nexts_of rows.old f t c + length sends.now < 2 ^ 64 }
-    ensures ok { OnOk result (HasSent rows.old rows.new sends.now) }
-    ensures begun { HasBegun rows.old rows.new sends.now }
+/// Makes room for messages on their wires.
+pub fn reserve_all(outboxes: &mut [Outbox], sends: &[Message]) -> Result<(), Memory>
+    requires from { Each (λ m. m.from < length outboxes.old) sends.now }
+    requires room { AllRoom outboxes.old }
+    ensures same { HaveMadeRoom outboxes.old outboxes.new }
+    ensures ok { OnOk result (CanSend outboxes.new sends.now) }
 {
     for message in sends {
-        send(rows, *message)?;
+        reserve(outboxes, message, sends.len())?;
     }
     Ok(())
+}
+
+/// Puts a message, for which there is room, on its wire.
+fn send(outboxes: &mut [Outbox], message: Message)
+    requires from { message.from < length outboxes.old }
+    requires room { AllRoom outboxes.old }
+    requires place { length (wires_of outboxes.old message.from message.to message.chan) < rooms_of outboxes.old message.from message.to message.chan }
+    requires few { nexts_of outboxes.old message.from message.to message.chan < 2 ^ 64 - 1 }
+    ensures sent { HasSent outboxes.old outboxes.new (message ∷ []) }
+    ensures rooms { (f t : ℕ) (c : Chan) → rooms_of outboxes.new f t c ≡ rooms_of outboxes.old f t c }
+{
+    outboxes[usize::from(message.from.get())].post(message)
+}
+
+/// Puts messages, for which there is room, on their wires.
+pub fn send_all(outboxes: &mut [Outbox], sends: &[Message])
+    requires from { Each (λ m. m.from < length outboxes.old) sends.now }
+    requires room { AllRoom outboxes.old }
+    requires places { CanSend outboxes.old sends.now }
+    requires few { (f t : ℕ) (c : Chan) → nexts_of outboxes.old f t c + length sends.now < 2 ^ 64 }
+    ensures { HasSent outboxes.old outboxes.new sends.now }
+{
+    for message in sends {
+        send(outboxes, *message);
+    }
 }

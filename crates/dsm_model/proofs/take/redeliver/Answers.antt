@@ -3,6 +3,8 @@ use Rattle.std.specs.Prelude.{position, IsSome}
 use Rattle.std.specs.List.{remove}
 use Rattle.tw_base.specs.declared.message.Message.{Message}
 use Rattle.dsm_runs.specs.declared.mode.Waiting.{Waiting}
+use Rattle.dsm_model.specs.declared.handle.Made.{Made}
+use Rattle.dsm_model.specs.Posts.{CanSend}
 use Rattle.dsm_model.specs.Kept.{is_served}
 use Rattle.dsm_runs.specs.Events.{freed_if, with_kept}
 use Rattle.dsm_runs.specs.Locals.{IsFirst}
@@ -18,8 +20,8 @@ unwrap-at-requires c =
     c.first_eligible.ensures ∙ ap (λ (ws : List Waiting). position (λ w. w.eligible) ws) c.items.ensures ∙ place_is c.args.l.now.deferred may.message may.earlier may.later may.takes in
     subst (λ (o : Option ℕ). IsSome o) (sym found) refl
 
-pub handle-requires : goal.handle-requires
-handle-requires c = all-get (is_served c.args.setup.now) c.args.l.now.blocks _ c.block_at-here.result.now c.requires.sound.served c.block_at-here.ensures
+pub handle-requires-clause-served : goal.handle-requires-clause-served
+handle-requires-clause-served c = all-get (is_served c.args.setup.now) c.args.l.now.blocks _ c.block_at-here.result.now c.requires.sound.served c.block_at-here.ensures
 
 pub remove-requires : goal.remove-requires
 remove-requires c =
@@ -61,7 +63,7 @@ returns-clause-made c =
     let within : m.block < s.shape.blocks = first_for s.shape.blocks m (take at ws) (drop (at + 1) ws) ws first c.requires.sound.deferred in
     let front : at < length ws = omega (arith, at_is, first_within ws may.message may.earlier may.later may.takes) in
     let h = c.in_ok-handling.handling in
-    let is = c.in_ok-handling.ensures in
+    let is = c.in_ok-handling.ensures.handling in
     let ds : List Waiting = c.remove.new.self in
     let waits : ds ≡ with_kept h.ended.kept m (freed_if h.ended.freed m.block (take at ws ++ drop (at + 1) ws)) =
     c.remove.ensures.rest ∙ ap (λ (xs : List Waiting). remove xs at) c.in_ok-defer.ensures.ok ∙ removed h.ended.kept h.ended.freed m.block m ws at front in
@@ -69,3 +71,6 @@ returns-clause-made c =
     (redelivery_made s c.args.me l m (take at ws) (drop (at + 1) ws) c.block_at-here.result.now h ds c.requires.me may.may c.requires.sound first within c.block_at-here.ensures is
     (others_for s.shape.blocks m (take at ws) (drop (at + 1) ws) ws first c.requires.sound.deferred) waits
     (omega (arith, may.may.sent, c.shape.ensures.valid.limits.budget, is.few)))
+
+pub returns-clause-ready : goal.returns-clause-ready
+returns-clause-ready c = subst (λ (m : Made). CanSend c.handle.new.outboxes m.sends) (sym c.adopt.ensures.made) c.in_ok-handling.ensures.ready

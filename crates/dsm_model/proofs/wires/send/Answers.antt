@@ -1,32 +1,29 @@
-use Rattle.std.proofs.Common.{◌≡◌, ◌∷◌, [], List, Ok, Err, Result, get_or, set, refl, sym, ◌∙◌, subst}
-use Rattle.std.specs.Prelude.{OnErr, OnOk}
-use Rattle.dsm_model.specs.declared.row.Row.{Row}
+use Rattle.std.proofs.Common.{◌≡◌, ◌∷◌, [], List, ℕ, get_or, set, refl, sym, ◌∙◌, subst}
+use Rattle.tw_base.specs.declared.message.Chan.{Chan}
+use Rattle.dsm_model.specs.declared.outbox.Outbox.{Outbox}
 use Rattle.dsm_model.specs.Posts.{HasSent}
-use Rattle.dsm_model.proofs.Posting.{element_at, sent_rows}
+use Rattle.dsm_model.specs.Views.{rooms_of}
+use Rattle.dsm_model.proofs.Posting.{element_at, placed, rooms_set, sent_outboxes}
 use Rattle.dsm_model.proofs.wires.send.Goals as goal
 
-on_ok_more : {A E P Q : Type 0} (r : Result A E) → (P → Q) → OnOk r P → OnOk r Q
-on_ok_more (Ok a) f h = f h
-on_ok_more (Err e) f h = tt
-
-on_err_more : {A E P Q : Type 0} (r : Result A E) → (P → Q) → OnErr r P → OnErr r Q
-on_err_more (Ok a) f h = tt
-on_err_more (Err e) f h = f h
-
-pub returns-clause-ok : goal.returns-clause-ok
-returns-clause-ok c =
-    let rows : List Row = c.args.rows.now in
-    let old : Row = get_or rows c.from.result c.index-rows-from.result in
+pub post-requires-clause-place : goal.post-requires-clause-place
+post-requires-clause-place c =
+    let outboxes : List Outbox = c.args.outboxes.now in
     let at : c.from.result ≡ c.args.message.from = c.from.ensures ∙ c.get.ensures.value in
-    on_ok_more c.post.result
-    (λ h. subst (λ k. HasSent rows (set rows k c.post.new.self) (c.args.message ∷ [])) (sym at) (sent_rows rows c.args.message.from old c.post.new.self (c.args.message ∷ []) (element_at rows c.from.result c.args.message.from c.index-rows-from.result at c.requires.from) c.requires.from c.requires.room c.post.ensures.room (refl, tt) h))
-    c.post.ensures.posted
+    placed outboxes c.args.message.from c.args.message.to c.args.message.chan _ (element_at outboxes c.from.result c.args.message.from c.index-outboxes-from.result at c.requires.from) c.requires.place
 
-pub returns-clause-err : goal.returns-clause-err
-returns-clause-err c =
-    let rows : List Row = c.args.rows.now in
-    let old : Row = get_or rows c.from.result c.index-rows-from.result in
+pub returns-clause-sent : goal.returns-clause-sent
+returns-clause-sent c =
+    let outboxes : List Outbox = c.args.outboxes.now in
+    let old : Outbox = get_or outboxes c.from.result c.index-outboxes-from.result in
     let at : c.from.result ≡ c.args.message.from = c.from.ensures ∙ c.get.ensures.value in
-    on_err_more c.post.result
-    (λ h. subst (λ k. HasSent rows (set rows k c.post.new.self) []) (sym at) (sent_rows rows c.args.message.from old c.post.new.self [] (element_at rows c.from.result c.args.message.from c.index-rows-from.result at c.requires.from) c.requires.from c.requires.room c.post.ensures.room tt h))
-    c.post.ensures.err
+    subst (λ k. HasSent outboxes (set outboxes k c.post.new.self) (c.args.message ∷ [])) (sym at)
+    (sent_outboxes outboxes c.args.message.from old c.post.new.self (c.args.message ∷ []) (element_at outboxes c.from.result c.args.message.from c.index-outboxes-from.result at c.requires.from) c.requires.from c.requires.room c.post.ensures.room (refl, tt) c.post.ensures.posted)
+
+pub returns-clause-rooms : goal.returns-clause-rooms
+returns-clause-rooms c =
+    let outboxes : List Outbox = c.args.outboxes.now in
+    let old : Outbox = get_or outboxes c.from.result c.index-outboxes-from.result in
+    let at : c.from.result ≡ c.args.message.from = c.from.ensures ∙ c.get.ensures.value in
+    subst (λ k. (f t : ℕ) (d : Chan) → rooms_of (set outboxes k c.post.new.self) f t d ≡ rooms_of outboxes f t d) (sym at)
+    (rooms_set outboxes c.args.message.from old c.post.new.self (element_at outboxes c.from.result c.args.message.from c.index-outboxes-from.result at c.requires.from) c.requires.from c.post.ensures.rooms)

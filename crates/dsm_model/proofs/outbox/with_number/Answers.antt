@@ -1,6 +1,6 @@
 use Rattle.std.proofs.Common.{refl}
 use Rattle.dsm_model.proofs.SameMessage.{same_message}
-use Rattle.dsm_model.proofs.row.with_number.Goals as goal
+use Rattle.dsm_model.proofs.outbox.with_number.Goals as goal
 
 pub returns : goal.returns
 returns c = same_message _ _ refl refl refl refl refl refl refl refl refl refl

@@ -1,5 +1,0 @@
-use Rattle.std.proofs.Common.{◌≡◌, replicate, []}
-use Rattle.dsm_model.proofs.row.Row.new.Given as goal
-
-abbrev pub invariant-loop-made : goal.invariant-loop-made
-invariant-loop-made l = l.queues.items ≡ replicate l.made []
