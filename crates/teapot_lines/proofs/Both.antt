@@ -21,7 +21,8 @@ use Rattle.tw_base.specs.declared.message.Chan.{Chan}
 use Rattle.tw_base.specs.declared.message.Chan.TheVariants as c
 use Rattle.tw_base.specs.declared.value.Tag.{Tag}
 use Rattle.tw_base.specs.declared.value.Tag.TheVariants as g
-use Rattle.teapot_lines.specs.Parts.{Got, opened, closed, brace_opened, brace_closed, comma, semicolon, becomes, ends, named, typed, tagged, chan_of, channel, param, answers, bracketed, with_front, if_comma, more, more_at, listed, tails, spelled_list, spelled_type, spelled_param, spelled_name, spelled_answers, word_of, tag_word, chan_number}
+use Rattle.teapot_lines.proofs.Marks.{past-is}
+use Rattle.teapot_lines.specs.Parts.{Got, opened, closed, brace_opened, brace_closed, comma, semicolon, becomes, ends, named, typed, tagged, channel, param, answers, bracketed, with_front, if_comma, more, more_at, listed, tails, spelled_list, spelled_type, spelled_param, spelled_name, spelled_answers, word_of, tag_word, chan_number}
 use Rattle.teapot_lines.proofs.Spells.{read_spelled}
 use Rattle.teapot_lines.proofs.Sound.{from-fronts}
 
@@ -30,60 +31,25 @@ after None P f Q h k = tt
 after (Some x) P f Q h k = k x h
 
 pub opened-is : (ts : List Seen) → IfSome (opened ts) (λ us. ts ≡ Marked m.Open ∷ us)
-opened-is [] = tt
-opened-is (Marked m.Open ∷ ts) = refl
-opened-is (Marked _ ∷ ts) = tt
-opened-is (Key _ ∷ ts) = tt
-opened-is (Named _ ∷ ts) = tt
-opened-is (Number _ ∷ ts) = tt
+opened-is ts = past-is m.Open ts
 
 pub closed-is : (ts : List Seen) → IfSome (closed ts) (λ us. ts ≡ Marked m.Close ∷ us)
-closed-is [] = tt
-closed-is (Marked m.Close ∷ ts) = refl
-closed-is (Marked _ ∷ ts) = tt
-closed-is (Key _ ∷ ts) = tt
-closed-is (Named _ ∷ ts) = tt
-closed-is (Number _ ∷ ts) = tt
+closed-is ts = past-is m.Close ts
 
 pub brace_opened-is : (ts : List Seen) → IfSome (brace_opened ts) (λ us. ts ≡ Marked m.BraceOpen ∷ us)
-brace_opened-is [] = tt
-brace_opened-is (Marked m.BraceOpen ∷ ts) = refl
-brace_opened-is (Marked _ ∷ ts) = tt
-brace_opened-is (Key _ ∷ ts) = tt
-brace_opened-is (Named _ ∷ ts) = tt
-brace_opened-is (Number _ ∷ ts) = tt
+brace_opened-is ts = past-is m.BraceOpen ts
 
 pub brace_closed-is : (ts : List Seen) → IfSome (brace_closed ts) (λ us. ts ≡ Marked m.BraceClose ∷ us)
-brace_closed-is [] = tt
-brace_closed-is (Marked m.BraceClose ∷ ts) = refl
-brace_closed-is (Marked _ ∷ ts) = tt
-brace_closed-is (Key _ ∷ ts) = tt
-brace_closed-is (Named _ ∷ ts) = tt
-brace_closed-is (Number _ ∷ ts) = tt
+brace_closed-is ts = past-is m.BraceClose ts
 
 pub comma-is : (ts : List Seen) → IfSome (comma ts) (λ us. ts ≡ Marked m.Comma ∷ us)
-comma-is [] = tt
-comma-is (Marked m.Comma ∷ ts) = refl
-comma-is (Marked _ ∷ ts) = tt
-comma-is (Key _ ∷ ts) = tt
-comma-is (Named _ ∷ ts) = tt
-comma-is (Number _ ∷ ts) = tt
+comma-is ts = past-is m.Comma ts
 
 pub semicolon-is : (ts : List Seen) → IfSome (semicolon ts) (λ us. ts ≡ Marked m.Semicolon ∷ us)
-semicolon-is [] = tt
-semicolon-is (Marked m.Semicolon ∷ ts) = refl
-semicolon-is (Marked _ ∷ ts) = tt
-semicolon-is (Key _ ∷ ts) = tt
-semicolon-is (Named _ ∷ ts) = tt
-semicolon-is (Number _ ∷ ts) = tt
+semicolon-is ts = past-is m.Semicolon ts
 
 pub becomes-is : (ts : List Seen) → IfSome (becomes ts) (λ us. ts ≡ Marked m.Becomes ∷ us)
-becomes-is [] = tt
-becomes-is (Marked m.Becomes ∷ ts) = refl
-becomes-is (Marked _ ∷ ts) = tt
-becomes-is (Key _ ∷ ts) = tt
-becomes-is (Named _ ∷ ts) = tt
-becomes-is (Number _ ∷ ts) = tt
+becomes-is ts = past-is m.Becomes ts
 
 pub named-is : (ts : List Seen) → IfSome (named ts) (λ r. ts ≡ Named r.0 ∷ r.1)
 named-is [] = tt

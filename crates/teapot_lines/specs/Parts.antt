@@ -1,12 +1,15 @@
 -- The parts of a line.
 use Rattle.std.specs.Prelude.{◌≡◌, ℕ, zero, suc, ◌==◌, Bool, true, false, if◌then◌else◌, List, [], ◌∷◌, ◌++◌, length, Option, Some, None, Result, Ok, Err}
 use Rattle.std.specs.Option.{option_map}
+use Rattle.std.specs.Str.{bytes_eq}
 use Rattle.tw_base.specs.Answers.{◌>>?◌}
 use Rattle.tw_base.specs.declared.message.Chan.{Chan}
 use Rattle.tw_base.specs.declared.message.Chan.TheVariants as c
 use Rattle.tw_base.specs.declared.value.Tag.{Tag}
 use Rattle.tw_base.specs.declared.value.Tag.TheVariants as g
+use Rattle.tw_lex.specs.declared.token.Mark.{Mark}
 use Rattle.tw_lex.specs.declared.token.Mark.TheVariants as m
+use Rattle.tw_lex.specs.Laws.{spelling as mark_spelling}
 use Rattle.teapot_tree.specs.declared.keyword.Keyword.{Keyword}
 use Rattle.teapot_tree.specs.declared.keyword.Keyword.TheVariants as k
 use Rattle.teapot_tree.specs.declared.protocol.ValType.{ValType}
@@ -32,33 +35,35 @@ Reads view (Err e) due = Misses e due
 abbrev pub Got : Type 0 → Type 0
 Got A = Option (A × List Seen)
 
+-- two marks are one where they are spelled the same
+abbrev pub same_mark : Mark → Mark → Bool
+same_mark a b = bytes_eq (mark_spelling a) (mark_spelling b)
+
+-- the tokens past a mark that stands at the front
+abbrev pub past : Mark → List Seen → Option (List Seen)
+past mark (Marked found ∷ ts) = if same_mark found mark then Some ts else None
+past mark _ = None
+
 abbrev pub opened : List Seen → Option (List Seen)
-opened (Marked m.Open ∷ ts) = Some ts
-opened _ = None
+opened = past m.Open
 
 abbrev pub closed : List Seen → Option (List Seen)
-closed (Marked m.Close ∷ ts) = Some ts
-closed _ = None
+closed = past m.Close
 
 abbrev pub brace_opened : List Seen → Option (List Seen)
-brace_opened (Marked m.BraceOpen ∷ ts) = Some ts
-brace_opened _ = None
+brace_opened = past m.BraceOpen
 
 abbrev pub brace_closed : List Seen → Option (List Seen)
-brace_closed (Marked m.BraceClose ∷ ts) = Some ts
-brace_closed _ = None
+brace_closed = past m.BraceClose
 
 abbrev pub comma : List Seen → Option (List Seen)
-comma (Marked m.Comma ∷ ts) = Some ts
-comma _ = None
+comma = past m.Comma
 
 abbrev pub semicolon : List Seen → Option (List Seen)
-semicolon (Marked m.Semicolon ∷ ts) = Some ts
-semicolon _ = None
+semicolon = past m.Semicolon
 
 abbrev pub becomes : List Seen → Option (List Seen)
-becomes (Marked m.Becomes ∷ ts) = Some ts
-becomes _ = None
+becomes = past m.Becomes
 
 -- no item of a list may begin here
 abbrev pub ends : List Seen → Bool

@@ -4,21 +4,21 @@ ghost use Rattle.teapot_lines.specs.Parts.{Reads};
 ghost use Rattle.teapot_lines.specs.Lines.{ended, profile_in, carried_in, cont, read_protocol, read_message, read_info, read_start, read_state, read_on, read_local, read_if, read_assign, read_send, read_set_tag, read_set_state, read_suspend, read_resume, read_error, read_for_each, form_by, form_of};
 
 use crate::cut::Cut;
-use crate::form::{Form, Reach};
-use crate::lists::{exprs, more_exprs, names, params, types};
+use crate::form::{Form, Reach, Typed};
+use crate::lists::{items, more_items};
 use crate::parts::{
-    ReadError, answers, becomes, brace_closed, brace_opened, bracketed, channel, closed, comma,
-    expr, named, opened, semicolon, tagged, typed, want,
+    ReadError, answers, bracketed, channel, expr, named, past, tagged, typed, want,
 };
 use std::alloc::Global;
 use teapot_tree::{Keyword, ValType, keyword_of};
 use tw_base::{Chan, Listed, Name};
-use tw_lex::{Token, What};
+use tw_lex::{Mark, Token, What};
 
 /// Nothing stands behind the form.
 fn ended(profile: u8, tokens: &[Token], form: Form<Cut>) -> Result<Form<Cut>, ReadError>
     ensures { Reads (λ f. f) result (ended (map (seen profile) tokens.now) form) }
 {
+    // The profile is named for the contract alone.
     let _ = profile;
     match tokens.split_first() {
         None => Ok(form),
@@ -27,6 +27,7 @@ fn ended(profile: u8, tokens: &[Token], form: Form<Cut>) -> Result<Form<Cut>, Re
 }
 
 /// The number of the profile stands in profile 2 alone.
+#[tactic(auto, using(crate::proofs::Words::word_is_no_profile))]
 fn profile_in(profile: u8, name: Name, tokens: &[Token]) -> Result<Form<Cut>, ReadError>
     ensures { Reads (λ f. f) result (profile_in profile name (map (seen profile) tokens.now)) }
 {
@@ -41,10 +42,7 @@ fn profile_in(profile: u8, name: Name, tokens: &[Token]) -> Result<Form<Cut>, Re
                 Err(ReadError::Bad)
             }
         }
-        What::Word(word) => {
-            let _ = keyword_of(profile, word.bytes());
-            Err(ReadError::Bad)
-        }
+        What::Word(_) => Err(ReadError::Bad),
         What::Mark(_) => Err(ReadError::Bad),
     }
 }
@@ -76,12 +74,12 @@ fn carried_in(
 fn cont(alloc: Global, profile: u8, tokens: &[Token]) -> Result<(Option<Name>, &[Token]), ReadError>
     ensures { Reads (λ x. (x.0, map (seen profile) x.1.now)) result (cont (map (seen profile) tokens.now)) }
 {
-    match brace_closed(profile, tokens) {
+    match past(profile, Mark::BraceClose, tokens) {
         Some(rest) => Ok((None, rest)),
         None => {
-            let rest = want(semicolon(profile, tokens))?;
+            let rest = want(profile, Mark::Semicolon, tokens)?;
             let (name, rest) = named(alloc, profile, rest)?;
-            let rest = want(brace_closed(profile, rest))?;
+            let rest = want(profile, Mark::BraceClose, rest)?;
             Ok((Some(name), rest))
         }
     }
@@ -100,9 +98,9 @@ fn read_message(alloc: Global, profile: u8, tokens: &[Token]) -> Result<Form<Cut
     ensures { Reads (λ f. f) result (read_message (map (seen profile) tokens.now)) }
 {
     let (name, rest) = named(alloc, profile, tokens)?;
-    let rest = want(opened(profile, rest))?;
-    let (args, rest) = types(alloc, profile, rest)?;
-    let rest = want(closed(profile, rest))?;
+    let rest = want(profile, Mark::Open, rest)?;
+    let (args, rest) = items::<ValType>(alloc, profile, rest)?;
+    let rest = want(profile, Mark::Close, rest)?;
     let (chan, rest) = channel(profile, rest)?;
     carried_in(profile, name, args, chan, rest)
 }
@@ -135,8 +133,8 @@ fn read_state(alloc: Global, profile: u8, tokens: &[Token]) -> Result<Form<Cut>,
     ensures { Reads (λ f. f) result (read_state (map (seen profile) tokens.now)) }
 {
     let (name, rest) = named(alloc, profile, tokens)?;
-    let rest = want(brace_opened(profile, rest))?;
-    let (args, rest) = params(alloc, profile, rest)?;
+    let rest = want(profile, Mark::BraceOpen, rest)?;
+    let (args, rest) = items::<Typed>(alloc, profile, rest)?;
     let (cont, rest) = cont(alloc, profile, rest)?;
     ended(profile, rest, Form::State(name, args, cont))
 }
@@ -146,9 +144,9 @@ fn read_on(alloc: Global, profile: u8, tokens: &[Token]) -> Result<Form<Cut>, Re
     ensures { Reads (λ f. f) result (read_on (map (seen profile) tokens.now)) }
 {
     let (answered, rest) = answers(alloc, profile, tokens)?;
-    let rest = want(opened(profile, rest))?;
-    let (args, rest) = names(alloc, profile, rest)?;
-    let rest = want(closed(profile, rest))?;
+    let rest = want(profile, Mark::Open, rest)?;
+    let (args, rest) = items::<Name>(alloc, profile, rest)?;
+    let rest = want(profile, Mark::Close, rest)?;
     ended(profile, rest, Form::On(answered, args))
 }
 
@@ -178,7 +176,7 @@ fn read_assign(
 ) -> Result<Form<Cut>, ReadError>
     ensures { Reads (λ f. f) result (read_assign name (map (seen profile) tokens.now)) }
 {
-    let rest = want(becomes(profile, tokens))?;
+    let rest = want(profile, Mark::Becomes, tokens)?;
     let (value, rest) = expr(alloc, profile, rest)?;
     ended(profile, rest, Form::Assign(name, value))
 }
@@ -192,12 +190,12 @@ fn read_send(
 ) -> Result<Form<Cut>, ReadError>
     ensures { Reads (λ f. f) result (read_send reach (map (seen profile) tokens.now)) }
 {
-    let rest = want(opened(profile, tokens))?;
+    let rest = want(profile, Mark::Open, tokens)?;
     let (to, rest) = expr(alloc, profile, rest)?;
-    let rest = want(comma(profile, rest))?;
+    let rest = want(profile, Mark::Comma, rest)?;
     let (name, rest) = named(alloc, profile, rest)?;
-    let (args, rest) = more_exprs(alloc, profile, Listed::new(alloc), rest)?;
-    let rest = want(closed(profile, rest))?;
+    let (args, rest) = more_items::<Cut>(alloc, profile, Listed::new(alloc), rest)?;
+    let rest = want(profile, Mark::Close, rest)?;
     ended(profile, rest, Form::Send(reach, to, name, args))
 }
 
@@ -205,9 +203,9 @@ fn read_send(
 fn read_set_tag(profile: u8, tokens: &[Token]) -> Result<Form<Cut>, ReadError>
     ensures { Reads (λ f. f) result (read_set_tag (map (seen profile) tokens.now)) }
 {
-    let rest = want(opened(profile, tokens))?;
+    let rest = want(profile, Mark::Open, tokens)?;
     let (tag, rest) = tagged(profile, rest)?;
-    let rest = want(closed(profile, rest))?;
+    let rest = want(profile, Mark::Close, rest)?;
     ended(profile, rest, Form::SetTag(tag))
 }
 
@@ -215,12 +213,12 @@ fn read_set_tag(profile: u8, tokens: &[Token]) -> Result<Form<Cut>, ReadError>
 fn read_set_state(alloc: Global, profile: u8, tokens: &[Token]) -> Result<Form<Cut>, ReadError>
     ensures { Reads (λ f. f) result (read_set_state (map (seen profile) tokens.now)) }
 {
-    let rest = want(opened(profile, tokens))?;
+    let rest = want(profile, Mark::Open, tokens)?;
     let (name, rest) = named(alloc, profile, rest)?;
-    let rest = want(brace_opened(profile, rest))?;
-    let (args, rest) = exprs(alloc, profile, rest)?;
-    let rest = want(brace_closed(profile, rest))?;
-    let rest = want(closed(profile, rest))?;
+    let rest = want(profile, Mark::BraceOpen, rest)?;
+    let (args, rest) = items::<Cut>(alloc, profile, rest)?;
+    let rest = want(profile, Mark::BraceClose, rest)?;
+    let rest = want(profile, Mark::Close, rest)?;
     ended(profile, rest, Form::SetState(name, args))
 }
 
@@ -228,16 +226,16 @@ fn read_set_state(alloc: Global, profile: u8, tokens: &[Token]) -> Result<Form<C
 fn read_suspend(alloc: Global, profile: u8, tokens: &[Token]) -> Result<Form<Cut>, ReadError>
     ensures { Reads (λ f. f) result (read_suspend (map (seen profile) tokens.now)) }
 {
-    let rest = want(opened(profile, tokens))?;
+    let rest = want(profile, Mark::Open, tokens)?;
     let (label, rest) = named(alloc, profile, rest)?;
-    let rest = want(comma(profile, rest))?;
+    let rest = want(profile, Mark::Comma, rest)?;
     let (name, rest) = named(alloc, profile, rest)?;
-    let rest = want(brace_opened(profile, rest))?;
-    let (args, rest) = exprs(alloc, profile, rest)?;
-    let rest = want(semicolon(profile, rest))?;
+    let rest = want(profile, Mark::BraceOpen, rest)?;
+    let (args, rest) = items::<Cut>(alloc, profile, rest)?;
+    let rest = want(profile, Mark::Semicolon, rest)?;
     let (passed, rest) = named(alloc, profile, rest)?;
-    let rest = want(brace_closed(profile, rest))?;
-    let rest = want(closed(profile, rest))?;
+    let rest = want(profile, Mark::BraceClose, rest)?;
+    let rest = want(profile, Mark::Close, rest)?;
     ended(profile, rest, Form::Suspend(label, name, args, passed))
 }
 

@@ -3,7 +3,7 @@ ghost use Rattle.std.specs.Option.{option_map};
 ghost use Rattle.teapot_lines.specs.Seen.{seen};
 ghost use Rattle.teapot_lines.specs.declared.parts.ReadError.TheVariants.{Memory as OutOfMemory};
 ghost use Rattle.teapot_lines.specs.Reading.{read};
-ghost use Rattle.teapot_lines.specs.Parts.{Reads, opened, closed, brace_opened, brace_closed, comma, semicolon, becomes, ends, named, type_of, typed, tag_of, tagged, chan_of, channel, param, answers, bracketed};
+ghost use Rattle.teapot_lines.specs.Parts.{Reads, same_mark, past, ends, named, type_of, typed, tag_of, tagged, chan_of, channel, param, answers, bracketed};
 
 use crate::cut::Cut;
 use crate::form::{Answers, Typed};
@@ -13,10 +13,12 @@ use teapot_tree::{Keyword, ValType, keyword_of};
 use tw_base::{Chan, Memory, Name, Tag};
 use tw_lex::{Mark, Token, What};
 
-#[derive(Clone, Copy, Debug, PartialEq, Eq)]
+#[derive(Clone, Copy, Debug, PartialEq, Eq, thiserror::Error)]
 pub enum ReadError {
     /// The line is of no form.
+    #[error("no form of a line")]
     Bad,
+    #[error("out of memory")]
     Memory,
 }
 
@@ -44,111 +46,43 @@ impl<T: Drop> From<AllocFailed<T>> for ReadError {
     }
 }
 
-pub fn opened(profile: u8, tokens: &[Token]) -> Option<&[Token]>
-    ensures { option_map (λ x. map (seen profile) x.now) result ≡ opened (map (seen profile) tokens.now) }
+fn same_mark(a: Mark, b: Mark) -> bool
+    ensures { result ≡ same_mark a b }
+{
+    a == b
+}
+
+/// The tokens past a mark that is to stand at the front.
+#[tactic(auto, using(crate::proofs::Marks::word_is_no_mark))]
+pub fn past(profile: u8, mark: Mark, tokens: &[Token]) -> Option<&[Token]>
+    ensures { option_map (λ x. map (seen profile) x.now) result ≡ past mark (map (seen profile) tokens.now) }
 {
     let (first, rest) = tokens.split_first()?;
     match &first.what {
-        What::Mark(Mark::Open) => Some(rest),
-        What::Mark(_) => None,
-        What::Number(_) => None,
-        What::Word(name) => {
-            let _ = keyword_of(profile, name.bytes());
-            None
+        What::Mark(found) => {
+            if same_mark(*found, mark) {
+                Some(rest)
+            } else {
+                None
+            }
         }
+        What::Number(_) => None,
+        What::Word(_) => None,
     }
 }
 
-pub fn closed(profile: u8, tokens: &[Token]) -> Option<&[Token]>
-    ensures { option_map (λ x. map (seen profile) x.now) result ≡ closed (map (seen profile) tokens.now) }
+/// The same, where the line is of no form without the mark.
+pub fn want(profile: u8, mark: Mark, tokens: &[Token]) -> Result<&[Token], ReadError>
+    ensures { Reads (λ x. map (seen profile) x.now) result (past mark (map (seen profile) tokens.now)) }
 {
-    let (first, rest) = tokens.split_first()?;
-    match &first.what {
-        What::Mark(Mark::Close) => Some(rest),
-        What::Mark(_) => None,
-        What::Number(_) => None,
-        What::Word(name) => {
-            let _ = keyword_of(profile, name.bytes());
-            None
-        }
+    match past(profile, mark, tokens) {
+        Some(rest) => Ok(rest),
+        None => Err(ReadError::Bad),
     }
 }
 
-pub fn brace_opened(profile: u8, tokens: &[Token]) -> Option<&[Token]>
-    ensures { option_map (λ x. map (seen profile) x.now) result ≡ brace_opened (map (seen profile) tokens.now) }
-{
-    let (first, rest) = tokens.split_first()?;
-    match &first.what {
-        What::Mark(Mark::BraceOpen) => Some(rest),
-        What::Mark(_) => None,
-        What::Number(_) => None,
-        What::Word(name) => {
-            let _ = keyword_of(profile, name.bytes());
-            None
-        }
-    }
-}
-
-pub fn brace_closed(profile: u8, tokens: &[Token]) -> Option<&[Token]>
-    ensures { option_map (λ x. map (seen profile) x.now) result ≡ brace_closed (map (seen profile) tokens.now) }
-{
-    let (first, rest) = tokens.split_first()?;
-    match &first.what {
-        What::Mark(Mark::BraceClose) => Some(rest),
-        What::Mark(_) => None,
-        What::Number(_) => None,
-        What::Word(name) => {
-            let _ = keyword_of(profile, name.bytes());
-            None
-        }
-    }
-}
-
-pub fn comma(profile: u8, tokens: &[Token]) -> Option<&[Token]>
-    ensures { option_map (λ x. map (seen profile) x.now) result ≡ comma (map (seen profile) tokens.now) }
-{
-    let (first, rest) = tokens.split_first()?;
-    match &first.what {
-        What::Mark(Mark::Comma) => Some(rest),
-        What::Mark(_) => None,
-        What::Number(_) => None,
-        What::Word(name) => {
-            let _ = keyword_of(profile, name.bytes());
-            None
-        }
-    }
-}
-
-pub fn semicolon(profile: u8, tokens: &[Token]) -> Option<&[Token]>
-    ensures { option_map (λ x. map (seen profile) x.now) result ≡ semicolon (map (seen profile) tokens.now) }
-{
-    let (first, rest) = tokens.split_first()?;
-    match &first.what {
-        What::Mark(Mark::Semicolon) => Some(rest),
-        What::Mark(_) => None,
-        What::Number(_) => None,
-        What::Word(name) => {
-            let _ = keyword_of(profile, name.bytes());
-            None
-        }
-    }
-}
-
-pub fn becomes(profile: u8, tokens: &[Token]) -> Option<&[Token]>
-    ensures { option_map (λ x. map (seen profile) x.now) result ≡ becomes (map (seen profile) tokens.now) }
-{
-    let (first, rest) = tokens.split_first()?;
-    match &first.what {
-        What::Mark(Mark::Becomes) => Some(rest),
-        What::Mark(_) => None,
-        What::Number(_) => None,
-        What::Word(name) => {
-            let _ = keyword_of(profile, name.bytes());
-            None
-        }
-    }
-}
-
+/// Whether no item of a list can begin here.
+#[tactic(auto, using(crate::proofs::Words::word_ends_no_list))]
 pub fn ends(profile: u8, tokens: &[Token]) -> bool
     ensures { result ≡ ends (map (seen profile) tokens.now) }
 {
@@ -159,10 +93,7 @@ pub fn ends(profile: u8, tokens: &[Token]) -> bool
             What::Mark(Mark::Semicolon) => true,
             What::Mark(_) => false,
             What::Number(_) => false,
-            What::Word(name) => {
-                let _ = keyword_of(profile, name.bytes());
-                false
-            }
+            What::Word(_) => false,
         },
         None => true,
     }
@@ -256,15 +187,13 @@ fn chan_of(number: u64) -> Option<Chan>
 }
 
 /// A channel, 0 or 1.
+#[tactic(auto, using(crate::proofs::Words::word_is_no_channel))]
 pub fn channel(profile: u8, tokens: &[Token]) -> Result<(Chan, &[Token]), ReadError>
     ensures { Reads (λ x. (x.0, map (seen profile) x.1.now)) result (channel (map (seen profile) tokens.now)) }
 {
     match tokens.split_first() {
         Some((first, rest)) => match &first.what {
-            What::Word(name) => {
-                let _ = keyword_of(profile, name.bytes());
-                Err(ReadError::Bad)
-            }
+            What::Word(_) => Err(ReadError::Bad),
             What::Number(number) => match chan_of(*number) {
                 Some(chan) => Ok((chan, rest)),
                 None => Err(ReadError::Bad),
@@ -314,16 +243,6 @@ pub fn expr(alloc: Global, profile: u8, tokens: &[Token]) -> Result<(Cut, &[Toke
     }
 }
 
-/// Wants a part that is there.
-pub fn want<'a>(tokens: Option<&'a [Token]>) -> Result<&'a [Token], ReadError>
-    ensures { Reads (λ x. x.now) result (option_map (λ x. x.now) tokens.entry) }
-{
-    match tokens {
-        Some(rest) => Ok(rest),
-        None => Err(ReadError::Bad),
-    }
-}
-
 /// A name in brackets.
 pub fn bracketed(
     alloc: Global,
@@ -332,8 +251,8 @@ pub fn bracketed(
 ) -> Result<(Name, &[Token]), ReadError>
     ensures { Reads (λ x. (x.0, map (seen profile) x.1.now)) result (bracketed (map (seen profile) tokens.now)) }
 {
-    let rest = want(opened(profile, tokens))?;
+    let rest = want(profile, Mark::Open, tokens)?;
     let (name, rest) = named(alloc, profile, rest)?;
-    let rest = want(closed(profile, rest))?;
+    let rest = want(profile, Mark::Close, rest)?;
     Ok((name, rest))
 }

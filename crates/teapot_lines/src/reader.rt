@@ -101,6 +101,7 @@ fn at_begin(
     }
 }
 
+#[tactic(auto, using(crate::proofs::Words::word_is_no_bracket))]
 fn at_bracket(
     profile: u8,
     held: &mut Stack<Open>,
@@ -116,10 +117,7 @@ fn at_bracket(
         }
         What::Mark(_) => Ok(None),
         What::Number(_) => Ok(None),
-        What::Word(name) => {
-            let _ = keyword_of(profile, name.bytes());
-            Ok(None)
-        }
+        What::Word(_) => Ok(None),
     }
 }
 
@@ -158,6 +156,7 @@ fn behind(
     }
 }
 
+#[tactic(auto, using(crate::proofs::Words::word_follows_none))]
 fn at_after(
     alloc: Global,
     profile: u8,
@@ -171,10 +170,7 @@ fn at_after(
         Some(top) => match &token.what {
             What::Mark(mark) => behind(alloc, held, top, a, *mark),
             What::Number(_) => Ok(None),
-            What::Word(name) => {
-                let _ = keyword_of(profile, name.bytes());
-                Ok(None)
-            }
+            What::Word(_) => Ok(None),
         },
         None => Ok(None),
     }
