@@ -6,7 +6,8 @@ use Rattle.tw_base.specs.declared.entry.Act.{Act}
 use Rattle.tw_base.specs.declared.entry.Entry.{Entry}
 use Rattle.mini_asm.specs.Run.{Machine}
 use Rattle.journal.specs.declared.history.Break.{Break}
-use Rattle.journal.specs.History.{break_at, break_from, flat_step, is_completed, reading}
+use Rattle.dsm_runs.specs.Flat.{flat_step, is_completed, reading}
+use Rattle.journal.specs.History.{break_at, break_from}
 
 -- ---- one read
 

@@ -1,9 +1,6 @@
-mod Beside
 mod Breaking
-mod Enumerating
-mod Lines
+pub mod Following
 mod Prints
-mod Repeating
 mod Seeking
 mod Telling
-mod Writing
+pub mod Told

@@ -1,6 +1,7 @@
 -- The first number of a range that passes a test.
-use Rattle.std.proofs.Common.{◌≡◌, ℕ, zero, suc, ◌+◌, ◌-◌, ◌<◌, Bool, true, false, cond, find, Some, ap, ◌∙◌, arith}
+use Rattle.std.proofs.Common.{◌≡◌, ℕ, zero, suc, ◌+◌, ◌-◌, ◌<◌, ◌≤◌, Bool, true, false, cond, find, Some, None, refl, ap, sym, subst, ◌∙◌, inl, inr, arith}
 use Rattle.std.specs.List.{range_with_len}
+use Rattle.std.proofs.lemmas.Bool.{cases_eq}
 
 -- ---- in those from k on, of n
 
@@ -21,3 +22,24 @@ within p k (suc left) found h = go (p k) h (within p (k + 1) left found)
     go : (b : Bool) → cond b (Some k) (find p (range_with_len (k + 1) left)) ≡ Some found → (find p (range_with_len (k + 1) left) ≡ Some found → found < k + 1 + left) → found < k + suc left
     go true h later = let e : k ≡ found = cc in omega arith
     go false h later = let lt : found < k + 1 + left = later h in omega arith
+
+-- and passes the test
+pub passes : (p : ℕ → Bool) (k left found : ℕ) → find p (range_with_len k left) ≡ Some found → p found ≡ true
+passes p k zero found h = absurd cc
+passes p k (suc left) found h = go (p k) refl h (passes p (k + 1) left found)
+  where
+    go : (b : Bool) → p k ≡ b → cond b (Some k) (find p (range_with_len (k + 1) left)) ≡ Some found → (find p (range_with_len (k + 1) left) ≡ Some found → p found ≡ true) → p found ≡ true
+    go true is h later = let e : k ≡ found = cc in subst (λ n. p n ≡ true) e is
+    go false is h later = later h
+
+-- where none is found, none of them passes
+pub missed : (p : ℕ → Bool) (k left i : ℕ) → find p (range_with_len k left) ≡ None → k ≤ i → i < k + left → p i ≡ true → ⊥
+missed p k zero i h le lt is = omega (arith, le, lt)
+missed p k (suc left) i h le lt is = go (p k) refl h (λ f le2 lt2. missed p (k + 1) left i f le2 lt2 is)
+  where
+    go : (b : Bool) → p k ≡ b → cond b (Some k) (find p (range_with_len (k + 1) left)) ≡ None → (find p (range_with_len (k + 1) left) ≡ None → k + 1 ≤ i → i < k + 1 + left → ⊥) → ⊥
+    go true q h later = cc
+    go false q h later = elim (cases_eq k i) [
+      | inl same ↦ (let z : true ≡ false = sym is ∙ sym (ap p same) ∙ q in cc)
+      | inr other ↦ later h (omega (arith, le, other)) (omega (arith, lt))
+    ]

@@ -4,14 +4,15 @@ use Rattle.std.specs.Option.{option_map}
 use Rattle.std.proofs.lemmas.List.{append-nil}
 use Rattle.tw_base.specs.declared.entry.Entry.{Entry}
 use Rattle.mini_asm.specs.Run.{Machine}
+use Rattle.dsm_runs.specs.Flat.{Follows, FollowsOne, IsBeside, core_of, flat_start, is_completed, reading}
 use Rattle.dsm_runs.specs.Setups.{IsSetup, Setup}
 use Rattle.dsm_runs.specs.Worlds.{Runs, Step, World, start}
 use Rattle.journal.specs.declared.history.Break.{Break}
-use Rattle.journal.specs.History.{break_at, break_from, flat_start, is_completed, reading}
-use Rattle.journal.specs.Laws.{Follows, FollowsOne, History, HistoryIsTold, IsBroken}
+use Rattle.journal.specs.History.{break_at, break_from}
+use Rattle.journal.specs.Laws.{History, HistoryIsTold, IsBroken}
 use Rattle.journal.proofs.Breaking.{break_at-other, break_at-same, break_from-broken, break_from-empty, break_from-same, break_from-silent}
-use Rattle.journal.proofs.Beside.{IsBeside, beside-at, beside-goes, beside-start, beside-stays}
-use Rattle.journal.proofs.Repeating.{ReadsOther, Repeats, acts-go, acts-stay, core_of, with_core}
+use Rattle.dsm_runs.proofs.FlatBeside.{beside-at, beside-goes, beside_start, beside-stays}
+use Rattle.dsm_runs.proofs.Repeating.{ReadsOther, Repeats, acts-go, acts-stay, with_core}
 
 -- ---- one entry more
 
@@ -112,4 +113,4 @@ told s all end setup (e ∷ es) = told-more s all end e es setup (told s all end
 
 pub history_told : HistoryIsTold
 history_told s journal end setup runs =
-    told s journal end setup journal [] (flat_start s) (start s) 0 refl (record { count = refl; follows = refl; beside = beside-start s }) runs
+    told s journal end setup journal [] (flat_start s) (start s) 0 refl (record { count = refl; follows = refl; beside = beside_start s }) runs

@@ -9,7 +9,8 @@ use Rattle.journal.specs.declared.finals.Final.{Final}
 
 -- a node whose handlers' work was not counted
 abbrev pub final_of : Setup → Local → Final
-final_of s l = record { outcome = outcome_of s l; cpu = l.cpu; instructions = l.instructions; handled = l.handled; ops = 0; records = 0 }
+final_of s l =
+    record { outcome = outcome_of s l; cpu = l.cpu; instructions = l.instructions; handled = l.handled; ops = 0; records = 0 }
 
 -- by node
 abbrev pub finals_of : Setup → World → List Final

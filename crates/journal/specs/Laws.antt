@@ -1,5 +1,5 @@
 -- What a journal says of one flat memory, and what a report says of a journal.
-use Rattle.std.specs.Prelude.{◌≡◌, ◌≢◌, ℕ, ◌<◌, codes, Bool, true, false, length, slice_get, List, [], ◌∷◌, ◌++◌, Option, Some, None}
+use Rattle.std.specs.Prelude.{◌≡◌, ◌≢◌, ℕ, ◌<◌, codes, length, slice_get, List, [], ◌∷◌, ◌++◌, Option, Some, None}
 use Rattle.std.specs.Fmt.{decimal}
 use Rattle.std.specs.List.{flat_map, enumerate_from}
 use Rattle.std.specs.Option.{option_map}
@@ -7,24 +7,15 @@ use Rattle.tw_base.specs.declared.entry.Act.{Act}
 use Rattle.tw_base.specs.declared.entry.Act.TheVariants as act
 use Rattle.tw_base.specs.declared.entry.Entry.{Entry}
 use Rattle.mini_asm.specs.Run.{Machine}
+use Rattle.dsm_runs.specs.Flat.{Follows, flat_start, flat_step, reading}
 use Rattle.dsm_runs.specs.Setups.{IsSetup, Setup}
 use Rattle.dsm_runs.specs.Worlds.{Runs, World, start}
 use Rattle.journal.specs.declared.history.Break.{Break}
 use Rattle.journal.specs.declared.finals.Final.{Final}
 use Rattle.journal.specs.declared.reports.Options.{Options}
-use Rattle.journal.specs.History.{first_break, flat_start, flat_step, is_completed, reading}
-use Rattle.journal.specs.Reports.{count_line, event_line, head, history_line, if_asked, line, node_line, register_lines, report_of, word_line}
-
--- an entry of an instruction that completed is what the flat machine does next at its node; others leave the machine
-abbrev pub FollowsOne : Bool → Machine → Entry → Machine → Type 0
-FollowsOne true m e next = flat_step m e.node ≡ Some (e.act, next)
-FollowsOne false m e next = next ≡ m
-
--- Executing the completed instructions of these entries, in their order, does at each step what the entry says: the same
--- act, address, value and sum.
-abbrev pub Follows : Machine → List Entry → Machine → Type 0
-Follows m [] end = end ≡ m
-Follows m (e ∷ es) end = (next : Machine) × FollowsOne (is_completed e.act) m e next × Follows next es end
+use Rattle.journal.specs.History.{first_break}
+use Rattle.printed_text.specs.Lines.{line}
+use Rattle.journal.specs.Reports.{count_line, event_line, head, history_line, if_asked, node_line, register_lines, report_of, word_line}
 
 -- One flat memory explains the journal of a run to g (after Lamport's sequential consistency): its instructions are the flat
 -- machine's, and leave the processors of g's nodes.

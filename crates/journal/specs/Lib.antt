@@ -3,4 +3,4 @@ pub mod Gathered
 pub mod History
 pub mod Laws
 pub mod Reports
-pub mod Spaced
+pub mod Unbroken

@@ -1,22 +1,13 @@
 -- The text of a report.
-use Rattle.std.specs.Prelude.{ℕ, ◌==◌, if◌then◌else◌, codes, slice_get, map, unwrap_or, Bool, true, false, List, [], ◌∷◌, ◌++◌, Option, Some, None}
+use Rattle.std.specs.Prelude.{ℕ, ◌==◌, if◌then◌else◌, codes, Bool, true, false, List, [], ◌∷◌, ◌++◌, Option, Some, None}
 use Rattle.std.specs.List.{flat_map, enumerate_from}
 use Rattle.std.specs.Fmt.{decimal}
 use Rattle.tw_base.specs.declared.entry.Act.{Act}
 use Rattle.tw_base.specs.declared.entry.Act.TheVariants as act
 use Rattle.tw_base.specs.declared.entry.After.{After}
-use Rattle.tw_base.specs.declared.entry.End.{End}
-use Rattle.tw_base.specs.declared.entry.End.TheVariants as end
 use Rattle.tw_base.specs.declared.entry.Entry.{Entry}
-use Rattle.tw_base.specs.declared.entry.Trap.{Trap}
-use Rattle.tw_base.specs.declared.entry.Trap.TheVariants.{BadAddress, FellOff}
-use Rattle.tw_base.specs.declared.message.Chan.{Chan}
-use Rattle.tw_base.specs.declared.message.Chan.TheVariants.{Zero, One}
-use Rattle.tw_base.specs.declared.message.Kind.{Kind}
-use Rattle.tw_base.specs.declared.message.Kind.TheVariants.{RdFault, WrFault, Named}
-use Rattle.tw_base.specs.declared.value.Tag.{Tag}
-use Rattle.tw_base.specs.declared.value.Tag.TheVariants.{Invalid, ReadOnly, ReadWrite}
-use Rattle.teapot_meaning.specs.Names.{error_names}
+pub use Rattle.printed_text.specs.Lines.{line}
+use Rattle.printed_text.specs.Names.{chan_text, failure_words, fault_text, kind_name, state_name, tag_text, trap_text}
 use Rattle.teapot_tree.specs.declared.protocol.Protocol.{Protocol}
 use Rattle.dsm_runs.specs.declared.outcome.Outcome.{Outcome}
 use Rattle.dsm_runs.specs.declared.outcome.Outcome.TheVariants as outcome
@@ -24,29 +15,6 @@ use Rattle.dsm_runs.specs.Setups.{Setup}
 use Rattle.journal.specs.declared.finals.Final.{Final}
 use Rattle.journal.specs.declared.history.Break.{Break}
 use Rattle.journal.specs.declared.reports.Options.{Options}
-
--- a line is words with a space between, and a line feed
-abbrev pub line : List (List ℕ) → List ℕ
-line [] = 10 ∷ []
-line (word ∷ []) = word ++ 10 ∷ []
-line (word ∷ next ∷ words) = word ++ 32 ∷ line (next ∷ words)
-
--- ---- names of the protocol
-
-abbrev pub name_in : List (List ℕ) → ℕ → List ℕ
-name_in names number = unwrap_or (slice_get names number) []
-
-abbrev pub message_name : Protocol → Kind → List ℕ
-message_name p RdFault = codes "RD_FAULT"
-message_name p WrFault = codes "WR_FAULT"
-message_name p (Named number) = name_in (map (λ m. m.name) p.messages) number
-
-abbrev pub state_name : Protocol → ℕ → List ℕ
-state_name p number = name_in (map (λ s. s.name) p.states) number
-
--- the name of an error, by its first place among the errors of the protocol
-abbrev pub error_name : Protocol → ℕ → List ℕ
-error_name p number = name_in (error_names p) number
 
 -- ---- the first line
 
@@ -77,16 +45,6 @@ register_lines ended = flat_map (register_line ended.0) (enumerate_from 0 ended.
 
 -- ---- nodes
 
-abbrev pub trap_text : Trap → List ℕ
-trap_text BadAddress = codes "BadAddress"
-trap_text FellOff = codes "FellOff"
-
--- how a handler failed; nothing where it did not
-abbrev pub failure_words : Protocol → End → List (List ℕ)
-failure_words p end.Fine = []
-failure_words p (end.Failed number) = codes "failed" ∷ error_name p number ∷ []
-failure_words p end.TooDeep = codes "failed" ∷ codes "TooDeep" ∷ []
-
 abbrev pub outcome_words : Protocol → Outcome → List (List ℕ)
 outcome_words p outcome.Halted = codes "halted" ∷ []
 outcome_words p (outcome.Trapped why) = codes "trapped" ∷ trap_text why ∷ []
@@ -104,19 +62,6 @@ count_line ended = line (codes "counts" ∷ decimal ended.0 ∷ codes "ops" ∷ 
 
 -- ---- events
 
-abbrev pub chan_text : Chan → List ℕ
-chan_text Zero = codes "0"
-chan_text One = codes "1"
-
-abbrev pub tag_text : Tag → List ℕ
-tag_text Invalid = codes "Invalid"
-tag_text ReadOnly = codes "ReadOnly"
-tag_text ReadWrite = codes "ReadWrite"
-
-abbrev pub fault_text : Bool → List ℕ
-fault_text true = codes "WR_FAULT"
-fault_text false = codes "RD_FAULT"
-
 abbrev pub act_words : Protocol → Act → List (List ℕ)
 act_words p (act.Load address value) = codes "ld" ∷ decimal address ∷ decimal value ∷ []
 act_words p (act.Store address value) = codes "st" ∷ decimal address ∷ decimal value ∷ []
@@ -126,9 +71,9 @@ act_words p act.Halt = codes "halt" ∷ []
 act_words p (act.Trapped why) = codes "trap" ∷ trap_text why ∷ []
 act_words p act.Step = codes "step" ∷ []
 act_words p (act.Fault store block) = codes "fault" ∷ fault_text store ∷ codes "block" ∷ decimal block ∷ []
-act_words p (act.Redelivered kind block from) = codes "redeliver" ∷ message_name p kind ∷ codes "block" ∷ decimal block ∷ codes "from" ∷ decimal from ∷ []
+act_words p (act.Redelivered kind block from) = codes "redeliver" ∷ kind_name p kind ∷ codes "block" ∷ decimal block ∷ codes "from" ∷ decimal from ∷ []
 act_words p (act.Delivered kind block from chan number) =
-    codes "deliver" ∷ message_name p kind ∷ codes "block" ∷ decimal block ∷ codes "from" ∷ decimal from ∷ codes "channel" ∷ chan_text chan
+    codes "deliver" ∷ kind_name p kind ∷ codes "block" ∷ decimal block ∷ codes "from" ∷ decimal from ∷ codes "channel" ∷ chan_text chan
     ∷ codes "number" ∷ decimal number ∷ []
 
 -- what a handler left; nothing where none ran

@@ -1,13 +1,11 @@
 ghost use Rattle.std.specs.Prelude.{◌≡◌, ◌++◌, OnOk};
 ghost use Rattle.std.specs.List.{flat_map, enumerate_from};
 ghost use Rattle.tw_base.specs.declared.entry.Act.TheVariants as act;
-ghost use Rattle.journal.specs.Reports.{act_words, after_words, chan_text, event_line, fault_text, print_line, tag_text};
-ghost use Rattle.journal.specs.Spaced.{spaced};
+ghost use Rattle.printed_text.specs.Lines.{spaced};
+ghost use Rattle.journal.specs.Reports.{act_words, after_words, event_line, print_line};
 
-use crate::names::Names;
-use crate::nodes::{add_failure, trap_text};
-use crate::text::Text;
-use tw_base::{Act, After, BlockId, Chan, Entry, Kind, Memory, NodeId, Tag};
+use printed_text::{Names, Text, add_failure, chan_text, fault_text, tag_text, trap_text};
+use tw_base::{Act, After, BlockId, Chan, Entry, Kind, Memory, NodeId};
 
 fn add_print(out: &mut Text, entry: &Entry) -> Result<(), Memory>
     ensures { OnOk result (out.new ≡ out.old ++ print_line entry.now) }
@@ -29,31 +27,6 @@ pub fn add_prints(out: &mut Text, journal: &[Entry]) -> Result<(), Memory>
     Ok(())
 }
 
-fn chan_text(chan: Chan) -> &'static str
-    ensures { result.now ≡ chan_text chan }
-{
-    match chan {
-        Chan::Zero => "0",
-        Chan::One => "1",
-    }
-}
-
-fn tag_text(tag: Tag) -> &'static str
-    ensures { result.now ≡ tag_text tag }
-{
-    match tag {
-        Tag::Invalid => "Invalid",
-        Tag::ReadOnly => "ReadOnly",
-        Tag::ReadWrite => "ReadWrite",
-    }
-}
-
-fn fault_text(store: bool) -> &'static str
-    ensures { result.now ≡ fault_text store }
-{
-    if store { "WR_FAULT" } else { "RD_FAULT" }
-}
-
 fn add_fault(out: &mut Text, names: &Names, store: bool, block: BlockId) -> Result<(), Memory>
     ensures { OnOk result (out.new ≡ out.old ++ spaced (act_words names.now.protocol.now (act.Fault store block))) }
 {
@@ -72,7 +45,7 @@ fn add_redelivered(
 {
     let (block, from) = (block.get(), from.get());
     out.add(b" redeliver ")?;
-    out.add(names.message(kind))?;
+    out.add(names.kind(kind))?;
     write!(out, " block {block} from {from}")
 }
 
@@ -89,7 +62,7 @@ fn add_delivered(
 {
     let (block, from, chan) = (block.get(), from.get(), chan_text(chan));
     out.add(b" deliver ")?;
-    out.add(names.message(kind))?;
+    out.add(names.kind(kind))?;
     write!(
         out,
         " block {block} from {from} channel {chan} number {number}"

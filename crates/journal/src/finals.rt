@@ -3,7 +3,8 @@ ghost use Rattle.std.specs.List.{range_with_len};
 ghost use Rattle.dsm_model.specs.Globals.{setup_of, world_of};
 ghost use Rattle.journal.specs.Finals.{final_of, finals_of};
 
-use dsm_model::{Global, Outcome, outcome_of};
+use dsm_model::{Global, outcome_of};
+use dsm_runs::Outcome;
 use mini_asm::Cpu;
 use std::alloc;
 use tw_base::{Listed, Memory, NodeId};

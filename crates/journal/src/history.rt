@@ -1,5 +1,6 @@
 ghost use Rattle.std.specs.Prelude.{◌≡◌, ◌<◌, ◌^◌, length, IfSome, IfNone, Some, None};
-ghost use Rattle.journal.specs.History.{break_at, break_from, flat_step, is_completed, reading};
+ghost use Rattle.dsm_runs.specs.Flat.{flat_step, is_completed, reading};
+ghost use Rattle.journal.specs.History.{break_at, break_from};
 
 use mini_asm::Flat;
 use tw_base::{Act, Entry, NodeId};

@@ -10,13 +10,13 @@ mod finals;
 mod gathered;
 mod history;
 mod laws;
-mod names;
 mod nodes;
 mod reports;
-mod text;
 
 pub use finals::{Final, finals_of};
 pub use gathered::words_of;
 pub use history::{Break, first_break};
-pub use laws::{history_is_told, report_has_the_prints};
+pub use laws::{
+    followed_journals_have_no_break, history_is_told, read_words_are_told, report_has_the_prints,
+};
 pub use reports::{Options, report};

@@ -1,13 +1,12 @@
 ghost use Rattle.std.specs.Prelude.{◌≡◌, ◌++◌, OnOk};
 ghost use Rattle.std.specs.List.{flat_map, enumerate_from};
-ghost use Rattle.journal.specs.Reports.{count_line, failure_words, node_line, outcome_words, register_line, register_lines, trap_text, word_line};
-ghost use Rattle.journal.specs.Spaced.{spaced};
+ghost use Rattle.printed_text.specs.Lines.{spaced};
+ghost use Rattle.journal.specs.Reports.{count_line, node_line, outcome_words, register_line, register_lines, word_line};
 
 use crate::Final;
-use crate::names::Names;
-use crate::text::Text;
-use dsm_model::Outcome;
-use tw_base::{End, Memory, Trap};
+use dsm_runs::Outcome;
+use printed_text::{Names, Text, add_failure, trap_text};
+use tw_base::Memory;
 
 fn add_word(out: &mut Text, address: usize, value: u64) -> Result<(), Memory>
     ensures { OnOk result (out.new ≡ out.old ++ word_line (address, value)) }
@@ -54,33 +53,6 @@ pub fn add_all_registers(out: &mut Text, finals: &[Final]) -> Result<(), Memory>
         add_registers(out, node, &ended.cpu.regs)?;
     }
     Ok(())
-}
-
-pub fn trap_text(why: Trap) -> &'static str
-    ensures { result.now ≡ trap_text why }
-{
-    match why {
-        Trap::BadAddress => "BadAddress",
-        Trap::FellOff => "FellOff",
-    }
-}
-
-fn add_error(out: &mut Text, names: &Names, number: u32) -> Result<(), Memory>
-    ensures { OnOk result (out.new ≡ out.old ++ spaced (failure_words names.now.protocol.now (End.Failed number))) }
-{
-    out.add(b" failed ")?;
-    out.add(names.error(number))
-}
-
-/// How a handler failed.
-pub fn add_failure(out: &mut Text, names: &Names, end: End) -> Result<(), Memory>
-    ensures { OnOk result (out.new ≡ out.old ++ spaced (failure_words names.now.protocol.now end)) }
-{
-    match end {
-        End::Fine => Ok(()),
-        End::Failed(number) => add_error(out, names, number),
-        End::TooDeep => out.add(b" failed TooDeep"),
-    }
 }
 
 fn add_outcome(out: &mut Text, names: &Names, outcome: Outcome) -> Result<(), Memory>

@@ -3,8 +3,8 @@ use Rattle.std.specs.Fmt.{decimal}
 use Rattle.std.proofs.lemmas.List.{append-nil}
 use Rattle.std.proofs.lemmas.Result.{on_ok_weaker}
 use Rattle.journal.specs.Reports.{act_words, after_words}
-use Rattle.journal.specs.Spaced.{spaced}
-use Rattle.journal.proofs.Lines.{line-made}
+use Rattle.printed_text.specs.Lines.{spaced}
+use Rattle.printed_text.proofs.Lines.{line-made}
 use Rattle.journal.proofs.events.add_event.Goals as goal
 
 pub returns : goal.returns

@@ -2,7 +2,7 @@ use Rattle.std.proofs.Common.{List, ◌++◌, take, sym, ap, ◌∙◌}
 use Rattle.std.specs.List.{flat_map, enumerate_from}
 use Rattle.tw_base.specs.declared.entry.Entry.{Entry}
 use Rattle.journal.specs.Reports.{event_line}
-use Rattle.journal.proofs.Enumerating.{flat_map-enumerate_from-more, grown}
+use Rattle.printed_text.proofs.Enumerating.{flat_map-enumerate_from-more, grown_by}
 use Rattle.journal.proofs.events.add_events.Goals as goal
 
 pub loop-event-preserved : goal.loop-event-preserved
@@ -11,6 +11,6 @@ loop-event-preserved c =
     let entries : List Entry = c.args.journal.now in
     let k = c.loop-event.event in
     let entry = c.index-journal-event in
-    grown c.args.out.now c.loop-event.out c.add_event.new.out _ _ _ c.loop-event.invariant c.in_ok-add_event.ensures
+    grown_by c.args.out.now c.loop-event.out c.add_event.new.out _ _ _ c.loop-event.invariant c.in_ok-add_event.ensures
     (flat_map-enumerate_from-more f entries k entry.result c.loop-event-test.true
     ∙ ap (λ (e : Entry). flat_map f (enumerate_from 0 (take k entries)) ++ f (k, e)) (sym entry.is))

@@ -1,5 +1,6 @@
 use Rattle.std.proofs.Common.{◌≡◌, ◌+◌, ◌∷◌, drop, arith, sym, ◌∙◌}
-use Rattle.journal.specs.History.{break_at, reading}
+use Rattle.dsm_runs.specs.Flat.{reading}
+use Rattle.journal.specs.History.{break_at}
 use Rattle.journal.proofs.Breaking.{entry-at, none-left, turn-broken, turn-ended, turn-same, turn-silent}
 use Rattle.journal.proofs.history.first_break.Goals as goal
 use Rattle.journal.proofs.history.first_break.Goals.{then-is_completed+in_ok-act+else-is_some, else-is_completed}

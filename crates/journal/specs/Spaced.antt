@@ -1,7 +1,0 @@
--- Words of a line behind others.
-use Rattle.std.specs.Prelude.{ℕ, List, ◌∷◌}
-use Rattle.std.specs.List.{flat_map}
-
--- each behind a space
-abbrev pub spaced : List (List ℕ) → List ℕ
-spaced words = flat_map (λ word. 32 ∷ word) words
