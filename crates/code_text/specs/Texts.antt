@@ -1,16 +1,15 @@
 -- The text of code.
-use Rattle.std.specs.Prelude.{ℕ, ◌+◌, ◌-◌, ◌==◌, if◌then◌else◌, codes, length, map, min, slice_get, unwrap_or, Bool, true, false, List, [], ◌∷◌, ◌++◌, Option, Some, None}
+use Rattle.std.specs.Prelude.{ℕ, ◌+◌, ◌-◌, ◌==◌, if◌then◌else◌, codes, length, min, slice_get, Bool, true, false, List, [], ◌∷◌, ◌++◌, Option, Some, None}
 use Rattle.std.specs.List.{flat_map, enumerate_from, range_with_len, slice_range}
 use Rattle.std.specs.Int.{bit_at}
 use Rattle.std.specs.Fmt.{decimal}
-use Rattle.tw_base.specs.declared.value.Tag.{Tag}
-use Rattle.tw_base.specs.declared.value.Tag.TheVariants as tag
+use Rattle.tw_base.specs.declared.message.Kind.TheVariants as kind
 use Rattle.tw_base.specs.declared.value.Value.{Value}
 use Rattle.tw_base.specs.declared.value.Value.TheVariants as v
 use Rattle.teapot_tree.specs.declared.expr.Op.{Op}
 use Rattle.teapot_tree.specs.declared.expr.Op.TheVariants as two
 use Rattle.teapot_tree.specs.declared.protocol.Protocol.{Protocol}
-use Rattle.teapot_meaning.specs.Names.{error_names}
+use Rattle.printed_text.specs.Names.{error_name, kind_name, message_name, state_name, tag_text}
 use Rattle.handler_code.specs.declared.code.Code.{Code}
 use Rattle.handler_code.specs.declared.code.Door.{Door}
 use Rattle.handler_code.specs.declared.code.Kind2.{Kind2}
@@ -21,22 +20,9 @@ use Rattle.handler_code.specs.declared.code.Rest.{Rest}
 
 -- ---- names
 
--- the name of this number, nothing where there is none
-abbrev pub name_in : List (List ℕ) → ℕ → List ℕ
-name_in names number = unwrap_or (slice_get names number) []
-
-abbrev pub message_name : Protocol → ℕ → List ℕ
-message_name p number = name_in (map (λ m. m.name) p.messages) number
-
-abbrev pub state_name : Protocol → ℕ → List ℕ
-state_name p number = name_in (map (λ s. s.name) p.states) number
-
-abbrev pub error_name : Protocol → ℕ → List ℕ
-error_name p number = name_in (error_names p) number
-
 abbrev pub trigger_name : Protocol → Kind2 → List ℕ
-trigger_name p on.RdFault = codes "RD_FAULT"
-trigger_name p on.WrFault = codes "WR_FAULT"
+trigger_name p on.RdFault = kind_name p kind.RdFault
+trigger_name p on.WrFault = kind_name p kind.WrFault
 trigger_name p (on.Named number) = message_name p number
 trigger_name p on.Default = codes "Default"
 
@@ -62,11 +48,6 @@ two_text two.Or = codes "Or"
 two_text two.Has = codes "Has"
 two_text two.With = codes "With"
 two_text two.Without = codes "Without"
-
-abbrev pub tag_text : Tag → List ℕ
-tag_text tag.Invalid = codes "Invalid"
-tag_text tag.ReadOnly = codes "ReadOnly"
-tag_text tag.ReadWrite = codes "ReadWrite"
 
 -- a word, and what it is said of
 abbrev pub of : List ℕ → List ℕ → List ℕ

@@ -1,15 +1,26 @@
 ghost use Rattle.std.specs.Prelude.{◌≡◌, ◌<◌, ◌≤◌, ◌++◌, IfOk, OnOk, length};
 ghost use Rattle.std.specs.List.{flat_map, enumerate_from, slice_range};
-ghost use Rattle.code_text.specs.Texts.{door_text, end_of, head_line, text_of};
+ghost use Rattle.code_text.specs.Texts.{door_text, end_of, head_line, text_of, trigger_name};
 
-use crate::names::Names;
 use crate::ops::add_ops;
 use crate::rests::add_rests;
-use crate::text::Text;
-use handler_code::{Code, Door, OpCode};
+use handler_code::{Code, Door, Kind2, OpCode};
+use printed_text::{Names, Text};
 use std::alloc::Global;
 use teapot_tree::Checked;
-use tw_base::Memory;
+use tw_base::{Kind, Memory};
+
+/// What a handler is for.
+fn trigger<'a>(names: &'a Names<'_>, on: Kind2) -> &'a [u8]
+    ensures { result.now ≡ trigger_name names.now.protocol.now on }
+{
+    match on {
+        Kind2::RdFault => names.kind(Kind::RdFault),
+        Kind2::WrFault => names.kind(Kind::WrFault),
+        Kind2::Named(number) => names.message(number),
+        Kind2::Default => b"Default",
+    }
+}
 
 fn add_head(out: &mut Text, names: &Names, door: &Door) -> Result<(), Memory>
     ensures { OnOk result (out.new ≡ out.old ++ head_line names.now.protocol.now door.now) }
@@ -18,7 +29,7 @@ fn add_head(out: &mut Text, names: &Names, door: &Door) -> Result<(), Memory>
     out.add(b"handler ")?;
     out.add(names.state(door.state))?;
     out.add(b" ")?;
-    out.add(names.trigger(door.on))?;
+    out.add(trigger(names, door.on))?;
     writeln!(out, " slots {slots}")
 }
 

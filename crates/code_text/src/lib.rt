@@ -5,9 +5,7 @@
 #![tactic(auto)]
 
 mod doors;
-mod names;
 mod ops;
 mod rests;
-mod text;
 
 pub use doors::code_text;

@@ -1,13 +1,12 @@
 ghost use Rattle.std.specs.Prelude.{◌≡◌, ◌+◌, ◌^◌, ◌<◌, ◌++◌, codes, length, OnOk};
 ghost use Rattle.std.specs.Fmt.{decimal};
 ghost use Rattle.handler_code.specs.declared.code.OpCode.{OpCode};
-ghost use Rattle.code_text.specs.Texts.{of, op_line, op_text, ops_text, tag_text, two_text, value_text};
+ghost use Rattle.code_text.specs.Texts.{of, op_line, op_text, ops_text, two_text, value_text};
 
-use crate::names::Names;
-use crate::text::Text;
 use handler_code::OpCode;
+use printed_text::{Names, Text, tag_text};
 use teapot_tree::Op;
-use tw_base::{Memory, Tag, Value};
+use tw_base::{Memory, Value};
 
 fn two_text(op: Op) -> &'static str
     ensures { result.now ≡ two_text op }
@@ -24,16 +23,6 @@ fn two_text(op: Op) -> &'static str
         Op::Has => "Has",
         Op::With => "With",
         Op::Without => "Without",
-    }
-}
-
-fn tag_text(tag: Tag) -> &'static str
-    ensures { result.now ≡ tag_text tag }
-{
-    match tag {
-        Tag::Invalid => "Invalid",
-        Tag::ReadOnly => "ReadOnly",
-        Tag::ReadWrite => "ReadWrite",
     }
 }
 

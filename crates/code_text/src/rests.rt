@@ -2,8 +2,8 @@ ghost use Rattle.std.specs.Prelude.{◌≡◌, ◌<◌, ◌++◌, OnOk};
 ghost use Rattle.std.specs.List.{flat_map, range_with_len};
 ghost use Rattle.code_text.specs.Texts.{live_text, rest_line, rest_of, rests_text, slot_text};
 
-use crate::text::Text;
 use handler_code::Rest;
+use printed_text::Text;
 use tw_base::Memory;
 
 fn add_slot(out: &mut Text, live: u32, slot: u32) -> Result<(), Memory>

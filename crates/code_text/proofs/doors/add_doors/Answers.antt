@@ -1,6 +1,6 @@
 use Rattle.handler_code.specs.declared.code.Kind2.TheVariants.{RdFault}
 use Rattle.code_text.specs.Texts.{door_text}
-use Rattle.code_text.proofs.Growing.{grown_at}
+use Rattle.printed_text.proofs.Growing.{grown_at}
 use Rattle.code_text.proofs.doors.add_doors.Goals as goal
 
 pub loop-number-preserved : goal.loop-number-preserved

@@ -1,6 +1,6 @@
 use Rattle.std.proofs.Common.{◌+◌}
 use Rattle.code_text.specs.Texts.{op_line}
-use Rattle.code_text.proofs.Growing.{grown}
+use Rattle.printed_text.proofs.Growing.{grown}
 use Rattle.code_text.proofs.ops.add_ops.Goals as goal
 
 pub loop-i-preserved : goal.loop-i-preserved

@@ -1,5 +1,5 @@
 use Rattle.code_text.specs.Texts.{rest_of}
-use Rattle.code_text.proofs.Growing.{grown_at}
+use Rattle.printed_text.proofs.Growing.{grown_at}
 use Rattle.code_text.proofs.rests.add_rests.Goals as goal
 
 pub loop-number-preserved : goal.loop-number-preserved

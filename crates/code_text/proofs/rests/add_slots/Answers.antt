@@ -1,5 +1,5 @@
 use Rattle.code_text.specs.Texts.{slot_text}
-use Rattle.code_text.proofs.Growing.{range_grown}
+use Rattle.printed_text.proofs.Growing.{range_grown}
 use Rattle.code_text.proofs.rests.add_slots.Goals as goal
 
 pub loop-slot-preserved : goal.loop-slot-preserved
