@@ -1,5 +1,5 @@
 -- The code of an accepted protocol has room in the arrays of a run.
-use Rattle.std.proofs.Common.{◌≡◌, ◌∙◌, ℕ, ◌+◌, ◌<◌, ◌≤◌, ◌⊎◌, true, length, Option, Some, refl, ap, sym, subst, add-one, arith, inl, inr}
+use Rattle.std.proofs.Common.{◌≡◌, ◌∙◌, ℕ, ◌<◌, ◌≤◌, ◌⊎◌, true, length, Option, Some, sym, subst, add-one, arith, inl, inr}
 use Rattle.std.specs.Prelude.{nat_lt, slice_get}
 use Rattle.std.proofs.lemmas.Bool.{and_parts, ltb-true}
 use Rattle.std.proofs.lemmas.Option.{slice_get_within}
@@ -13,12 +13,10 @@ use Rattle.handler_code.specs.declared.code.Rest.{Rest}
 use Rattle.handler_code.specs.Live.{HasOp, LeadsTo}
 use Rattle.code_walks.specs.Parts.{place_or}
 use Rattle.code_rules.specs.Safety.{depth_in}
-use Rattle.code_rules.specs.Safety as safety
-use Rattle.code_walks.specs.Stacks.{taken}
 use Rattle.code_rules.specs.Structure.{begins, rises_from}
 use Rattle.code_rules.proofs.Depthly.{Home, home}
 use Rattle.code_rules.proofs.Safely.{InPart, fitting}
-use Rattle.handler_code.specs.Stacks.{HasDepth, put_by, taken_by}
+use Rattle.handler_code.specs.Stacks.{HasDepth}
 use Rattle.handler_vm.specs.Room.{HasPlaces, HasRoom, IsThere}
 use Rattle.compiled_meaning.specs.Whole.{IsCode}
 use Rattle.compiled_rules.proofs.Facts.{fin_there, is_neat, rests_stand}
@@ -30,30 +28,9 @@ use Rattle.compiled_rules.proofs.Rooming.{needs_little, slots_few}
 use Rattle.compiled_rules.proofs.Structuring.{structured}
 use Rattle.compiled_handlers.proofs.Widths.{width_from, width_is, width_most}
 
--- ---- what an op takes off the stack and puts there
-
-same_taken : (p : Protocol) (o : OpCode) → taken p o ≡ taken_by p o
-same_taken p (op.Const x) = refl
-same_taken p _ = refl
-
-same_put : (o : OpCode) → safety.put_by o ≡ put_by o
-same_put (op.Const x) = refl
-same_put _ = refl
-
 module _ (p : Protocol) (code : Code) (a : IsAccepted p) (c : IsCode p code) where
   stack : HasDepth p code (depth_in p code)
-  stack =
-      let little = needs_little p code a c in
-      let d = little.depths in
-      record {
-        first = refl;
-        doors = d.doors;
-        rests = d.rests;
-        enough = λ at o has. subst (λ n. n ≤ depth_in p code at) (same_taken p o) (d.enough at o has);
-        leads = λ at next o written has l.
-            ap (λ n. depth_in p code next + n) (sym (same_taken p o)) ∙ (d.leads at next o written has l ∙ ap (λ n. depth_in p code at + n) (same_put o));
-        most = d.most;
-      }
+  stack = let little = needs_little p code a c in little.depths
 
   -- ---- the ops of one handler
 
