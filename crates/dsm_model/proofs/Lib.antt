@@ -11,3 +11,4 @@ mod FirstSound
 mod SameMessage
 mod Redelivering
 mod Counting
+mod Going

@@ -4,3 +4,4 @@ pub mod Views
 pub mod Kept
 pub mod Makes
 pub mod Posts
+pub mod Begun

@@ -3,7 +3,7 @@
 //! `enabled` is exactly whether an event may happen. `step` makes an enabled event and gives its entry: the state that it
 //! leads to is the one that the definitions say (`Step`). `settle` makes the events of a serial schedule until none is
 //! enabled, and gives their entries (`Settles`). `outcome_of` says how a node ended. Want of memory is the only error; after it
-//! `step` has changed nothing.
+//! `step` has changed nothing, and the events that `settle` made stand.
 #![tactic(auto)]
 
 mod deferred;

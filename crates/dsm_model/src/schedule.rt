@@ -1,6 +1,8 @@
-ghost use Rattle.std.specs.Prelude.{◌≡◌, ◌∷◌, ◌++◌, ◌<◌, true, false, [], IfOk, OnOk};
+ghost use Rattle.std.specs.Prelude.{◌≡◌, ◌∷◌, ◌++◌, ◌<◌, true, false, [], List, IfOk, OnErr, OnOk};
 ghost use Rattle.std.specs.List.{filter};
 ghost use Rattle.tw_base.specs.declared.entry.Event.TheVariants as event;
+ghost use Rattle.tw_base.specs.declared.entry.Entry.{Entry};
+ghost use Rattle.dsm_model.specs.Begun.{HasBegun};
 ghost use Rattle.dsm_model.specs.Globals.{setup_of, world_of};
 ghost use Rattle.dsm_runs.specs.Schedules.{Advances, Settles, chosen, deliveries, enabled_events, node_events};
 ghost use Rattle.dsm_runs.specs.Tests.{has_eligible, is_enabled, may_handle};
@@ -104,6 +106,7 @@ fn advance(
 ) -> Result<Option<Entry>, Memory>
     ensures setup { setup_of g.new ≡ setup_of g.old }
     ensures step { IfOk result (λ made. Advances (setup_of g.old) stride turn (world_of g.old) made (world_of g.new)) }
+    ensures err { OnErr result (world_of g.new ≡ world_of g.old) }
 {
     let some = enabled_events(alloc, g)?;
     let Some(e) = chosen(some.items(), turn, stride) else {
@@ -122,10 +125,11 @@ fn push_entry(entries: &mut Listed<Entry>, entry: Entry) -> Result<(), Memory>
 
 /// Makes the events of the serial schedule until none is enabled, and gives their entries.
 ///
-/// Want of memory is the only error: a run has far fewer than 2^32 events.
+/// Want of memory is the only error: a run has far fewer than 2^32 events. The events that were made before it stand.
 pub fn settle(alloc: alloc::Global, g: &mut Global, stride: u32) -> Result<Listed<Entry>, Memory>
     ensures setup { setup_of g.new ≡ setup_of g.old }
     ensures settles { IfOk result (λ entries. Settles (setup_of g.old) stride 0 (world_of g.old) entries (world_of g.new)) }
+    ensures err { OnErr result ((entries : List Entry) × HasBegun (setup_of g.old) stride 0 (world_of g.old) entries (world_of g.new)) }
 {
     let mut entries = Listed::new(alloc);
     for turn in 0..u32::MAX {

@@ -1,7 +1,10 @@
-use Rattle.std.proofs.Common.{◌≡◌, ◌∷◌, [], List, None, length, length-append, rules, refl, ap, sym, ◌∙◌, subst, arith}
+use Rattle.std.proofs.Common.{◌≡◌, ◌∷◌, ◌++◌, [], List, None, length, length-append, rules, refl, ap, sym, ◌∙◌, subst, arith}
 use Rattle.tw_base.specs.declared.entry.Entry.{Entry}
+use Rattle.dsm_model.specs.Begun.{HasBegun}
 use Rattle.dsm_model.specs.Globals.{setup_of, world_of}
 use Rattle.dsm_runs.proofs.Scheduling.{Begins, begins_at, begins_none, settles_at}
+use Rattle.dsm_model.proofs.Going.{begun_at, begun_still}
+use Rattle.dsm_model.proofs.Posting.{on_err}
 use Rattle.dsm_model.proofs.schedule.settle.Goals as goal
 
 pub loop-turn-init : goal.loop-turn-init
@@ -12,7 +15,22 @@ loop-turn-init c =
       setup = refl;
       count = ap (λ (es : List Entry). length es) c.new-entries.ensures;
       begins = subst (λ (es : List Entry). Begins s c.args.stride 0 g es g) (sym c.new-entries.ensures) (begins_none s c.args.stride 0 g);
+      begun = subst (λ (es : List Entry). HasBegun s c.args.stride 0 g es g) (sym c.new-entries.ensures) refl;
     }
+
+pub returns-in_err-entry-clause-err : goal.returns-in_err-entry-clause-err
+returns-in_err-entry-clause-err c = on_err c.from_residual.result
+    (c.loop-turn.entries, begun_still (setup_of c.args.g.now) c.args.stride (world_of c.args.g.now) (world_of c.loop-turn.g) (world_of c.advance.new.g) c.loop-turn.entries c.in_err-entry.ensures.err c.loop-turn.invariant.begun)
+
+pub returns-in_err-push_entry-clause-err : goal.returns-in_err-push_entry-clause-err
+returns-in_err-push_entry-clause-err c = on_err c.from_residual-in_err-push_entry.result (
+  c.loop-turn.entries ++ c.in-Some.entry ∷ [],
+  begun_at (setup_of c.args.g.now) (setup_of c.loop-turn.g) c.args.stride c.loop-turn.turn (world_of c.args.g.now) (world_of c.loop-turn.g) (world_of c.advance.new.g) c.loop-turn.entries c.in_ok-entry.field-0 c.in-Some.entry
+      c.loop-turn.invariant.setup c.loop-turn.invariant.count c.loop-turn.invariant.begun c.in-Some.is c.in_ok-entry.ensures.step,
+)
+
+pub returns-clause-err : goal.returns-clause-err
+returns-clause-err c = (c.loop-turn.entries, c.loop-turn.invariant.begun)
 
 pub returns-in_default-clause-settles : goal.returns-in_default-clause-settles
 returns-in_default-clause-settles c =
@@ -31,4 +49,7 @@ loop-turn-preserved c =
       begins = subst (λ (es : List Entry). Begins s c.args.stride 0 g es (world_of c.advance.new.g)) (sym c.in_ok-push_entry.ensures)
           (begins_at s (setup_of c.loop-turn.g) c.args.stride c.loop-turn.turn g (world_of c.loop-turn.g) (world_of c.advance.new.g) c.loop-turn.entries c.in_ok-entry.field-0 e
           c.loop-turn.invariant.setup c.loop-turn.invariant.count c.loop-turn.invariant.begins c.in-Some.is c.in_ok-entry.ensures.step);
+      begun = subst (λ (es : List Entry). HasBegun s c.args.stride 0 g es (world_of c.advance.new.g)) (sym c.in_ok-push_entry.ensures)
+          (begun_at s (setup_of c.loop-turn.g) c.args.stride c.loop-turn.turn g (world_of c.loop-turn.g) (world_of c.advance.new.g) c.loop-turn.entries c.in_ok-entry.field-0 e
+          c.loop-turn.invariant.setup c.loop-turn.invariant.count c.loop-turn.invariant.begun c.in-Some.is c.in_ok-entry.ensures.step);
     }
