@@ -11,8 +11,7 @@ use Rattle.teapot_tree.specs.Scopes.{Scope}
 use Rattle.teapot_tree.specs.declared.rule.Rule.{Rule}
 use Rattle.teapot_rules.specs.declared.handler_scope.Scope.{Scope as Scoped}
 use Rattle.teapot_rules.specs.Deeds.{scope_of}
-use Rattle.teapot_rules.specs.Faults.{in_handlers}
-use Rattle.teapot_rules.specs.Firsts.{handler_lines}
+use Rattle.teapot_rules.specs.Faults.{handler_lines, in_handlers}
 use Rattle.teapot_rules.specs.Lists.{least}
 use Rattle.teapot_check.specs.Handlers.{scope_in, scopes_in}
 

@@ -7,8 +7,7 @@ use Rattle.teapot_tree.specs.declared.protocol.State.{State}
 use Rattle.teapot_tree.specs.declared.rule.Rule.TheVariants.{Undeclared, Twice, ArgCount, NotTwoStarts}
 use Rattle.teapot_tree.specs.Rules.{is_wrong_start}
 use Rattle.teapot_tree.specs.Scopes.{state_of}
-use Rattle.teapot_rules.specs.Faults.{again_handlers, again_messages, again_params, again_starts, again_states, in_handlers, lines, names_cont}
-use Rattle.teapot_rules.specs.Firsts.{handler_lines}
+use Rattle.teapot_rules.specs.Faults.{again_handlers, again_messages, again_params, again_starts, again_states, handler_lines, in_handlers, lines, names_cont}
 use Rattle.teapot_rules.specs.Lists.{least, lesser, line_if}
 use Rattle.teapot_rules.proofs.Appending.{least-append, lesser-assoc}
 

@@ -5,8 +5,8 @@ ghost use Rattle.teapot_tree.specs.Grammar.{IsTree};
 ghost use Rattle.teapot_check.specs.Answering.{IsAnswer};
 ghost use Rattle.teapot_check.specs.Handlers.{scopes_in};
 ghost use Rattle.teapot_rules.specs.Deeds.{scope_of};
-ghost use Rattle.teapot_rules.specs.Faults.{again_handlers, again_messages, again_params, again_states, lines};
-ghost use Rattle.teapot_rules.specs.Firsts.{all_rules, body_lines, first_of_rules, handler_lines, last_rules, sooner};
+ghost use Rattle.teapot_rules.specs.Faults.{again_handlers, again_messages, again_params, again_states, body_lines, handler_lines, lines};
+ghost use Rattle.teapot_rules.specs.Firsts.{all_rules, first_of_rules, last_rules, sooner};
 ghost use Rattle.teapot_rules.specs.Lists.{least, lesser};
 
 use crate::again::{again, again_named};

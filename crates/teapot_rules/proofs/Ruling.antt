@@ -6,7 +6,7 @@ use Rattle.teapot_tree.specs.Paths.{is_enqueue, is_suspend}
 use Rattle.teapot_tree.specs.Rules.{uses_undeclared, has_wrong_type, has_wrong_count, drops_cont, resumes_foreign, lacks_data, is_late, body_in}
 use Rattle.teapot_tree.specs.Scopes.{Scope}
 use Rattle.teapot_rules.specs.Deeds.{comes_first, breaks_at}
-use Rattle.teapot_rules.specs.Firsts.{body_lines}
+use Rattle.teapot_rules.specs.Faults.{body_lines}
 use Rattle.teapot_rules.specs.Walks.{walk}
 use Rattle.teapot_rules.proofs.Appending.{follow-walk, last-walk, steps-walk}
 

@@ -54,26 +54,57 @@ again_starts ss = again (λ x y. same_truth y.home x.home) (λ (s : Start). s.li
 abbrev pub again_names : List (Name × ℕ) → List ℕ
 again_names ns = again (λ (x : Name × ℕ) (y : Name × ℕ). bytes_eq y.0 x.0) (λ (x : Name × ℕ). x.1) [] ns
 
+-- the lines of the statements of a handler that break the rule
+abbrev pub body_lines : Rule → Scope → List ℕ
+body_lines Undeclared c = step_lines (uses_undeclared c) (body_in c)
+body_lines Twice c = follow is_enqueue is_enqueue (body_in c) false
+body_lines WrongType c = step_lines (has_wrong_type c) (body_in c)
+body_lines ArgCount c = step_lines (has_wrong_count c) (body_in c)
+body_lines NoDefault c = step_lines (λ d. false) (body_in c)
+body_lines ContDropped c = step_lines (drops_cont c) (body_in c)
+body_lines ResumeNotLast c = not_last is_resume (body_in c) false
+body_lines ResumeForeign c = step_lines (resumes_foreign c) (body_in c)
+body_lines AfterSuspend c = follow is_suspend (is_late c.protocol.profile) (body_in c) false
+body_lines NoData c = step_lines (lacks_data c) (body_in c)
+body_lines TooManySends c = step_lines (λ d. false) (body_in c)
+body_lines NotTwoStarts c = step_lines (λ d. false) (body_in c)
+
+-- the lines of a handler at which it breaks the rule
+abbrev pub handler_lines : Rule → Scope → List ℕ
+handler_lines Undeclared c = line_if (answers_undeclared c.protocol c.handler.on) c.handler.line ++ body_lines Undeclared c
+handler_lines Twice c = again_names (visible_names c) ++ body_lines Twice c
+handler_lines WrongType c = body_lines WrongType c
+handler_lines ArgCount c = line_if (counts_wrongly c.protocol c.handler.on c.handler.args) c.handler.line ++ body_lines ArgCount c
+handler_lines NoDefault c = []
+handler_lines ContDropped c = body_lines ContDropped c
+handler_lines ResumeNotLast c = body_lines ResumeNotLast c
+handler_lines ResumeForeign c = body_lines ResumeForeign c
+handler_lines AfterSuspend c = body_lines AfterSuspend c
+handler_lines NoData c = body_lines NoData c
+handler_lines TooManySends c = line_if (nat_lt 32 (most (body_in c))) c.handler.line
+handler_lines NotTwoStarts c = []
+
+-- the lines of a protocol at which it breaks the rule
 abbrev pub lines : Protocol → Rule → List ℕ
 lines p Undeclared =
     flat_map (λ (s : Start). line_if (is_none (state_of p s.state)) s.line) p.starts
-    ++ in_handlers (λ c. line_if (answers_undeclared p c.handler.on) c.handler.line ++ step_lines (uses_undeclared c) (body_in c)) p
+    ++ in_handlers (handler_lines Undeclared) p
 lines p Twice =
     again_messages p.messages
     ++ (again_params p.infos
     ++ (again_states p.states
     ++ (flat_map (λ (s : State). line_if (names_cont s) s.line) p.states
     ++ (flat_map (λ (s : State). again_handlers s.handlers) p.states
-    ++ in_handlers (λ c. again_names (visible_names c) ++ follow is_enqueue is_enqueue (body_in c) false) p))))
-lines p WrongType = in_handlers (λ c. step_lines (has_wrong_type c) (body_in c)) p
+    ++ in_handlers (handler_lines Twice) p))))
+lines p WrongType = in_handlers (handler_lines WrongType) p
 lines p ArgCount =
     flat_map (λ (s : Start). line_if (is_wrong_start (state_of p s.state)) s.line) p.starts
-    ++ in_handlers (λ c. line_if (counts_wrongly p c.handler.on c.handler.args) c.handler.line ++ step_lines (has_wrong_count c) (body_in c)) p
+    ++ in_handlers (handler_lines ArgCount) p
 lines p NoDefault = flat_map (λ (s : State). line_if (not (has_default s)) s.line) p.states
-lines p ContDropped = in_handlers (λ c. step_lines (drops_cont c) (body_in c)) p
-lines p ResumeNotLast = in_handlers (λ c. not_last is_resume (body_in c) false) p
-lines p ResumeForeign = in_handlers (λ c. step_lines (resumes_foreign c) (body_in c)) p
-lines p AfterSuspend = in_handlers (λ c. follow is_suspend (is_late p.profile) (body_in c) false) p
-lines p NoData = in_handlers (λ c. step_lines (lacks_data c) (body_in c)) p
-lines p TooManySends = in_handlers (λ c. line_if (nat_lt 32 (most (body_in c))) c.handler.line) p
+lines p ContDropped = in_handlers (handler_lines ContDropped) p
+lines p ResumeNotLast = in_handlers (handler_lines ResumeNotLast) p
+lines p ResumeForeign = in_handlers (handler_lines ResumeForeign) p
+lines p AfterSuspend = in_handlers (handler_lines AfterSuspend) p
+lines p NoData = in_handlers (handler_lines NoData) p
+lines p TooManySends = in_handlers (handler_lines TooManySends) p
 lines p NotTwoStarts = again_starts p.starts ++ line_if (nat_lt (length p.starts) 2) p.line

@@ -2,8 +2,7 @@ use Rattle.std.proofs.Common.{◌≡◌, ap, ◌∙◌}
 use Rattle.teapot_tree.specs.declared.rule.Rule.TheVariants.{Twice}
 use Rattle.teapot_tree.specs.Rules.{visible_names}
 use Rattle.teapot_rules.specs.Deeds.{scope_of}
-use Rattle.teapot_rules.specs.Faults.{again_names}
-use Rattle.teapot_rules.specs.Firsts.{body_lines, handler_lines}
+use Rattle.teapot_rules.specs.Faults.{again_names, body_lines, handler_lines}
 use Rattle.teapot_rules.specs.Lists.{least}
 use Rattle.teapot_rules.proofs.Appending.{least-append}
 use Rattle.teapot_check.proofs.checker.handler_line.Goals as goal

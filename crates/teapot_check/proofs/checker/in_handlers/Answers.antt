@@ -2,7 +2,7 @@ use Rattle.std.proofs.Common.{◌≡◌}
 use Rattle.std.specs.List.{flat_map}
 use Rattle.teapot_rules.specs.declared.handler_scope.Scope.{Scope}
 use Rattle.teapot_rules.specs.Deeds.{scope_of}
-use Rattle.teapot_rules.specs.Firsts.{handler_lines}
+use Rattle.teapot_rules.specs.Faults.{handler_lines}
 use Rattle.teapot_rules.specs.Lists.{least}
 use Rattle.teapot_rules.proofs.Looping.{flat_more}
 use Rattle.teapot_check.proofs.checker.in_handlers.Goals as goal

@@ -1,7 +1,7 @@
 use Rattle.std.proofs.Common.{◌≡◌, drop}
 use Rattle.std.specs.List.{flat_map}
 use Rattle.teapot_rules.specs.Deeds.{scope_of}
-use Rattle.teapot_rules.specs.Firsts.{handler_lines}
+use Rattle.teapot_rules.specs.Faults.{handler_lines}
 use Rattle.teapot_rules.specs.Lists.{lesser, least}
 use Rattle.teapot_check.proofs.checker.in_handlers.Given as goal
 
