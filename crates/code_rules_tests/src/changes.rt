@@ -1,4 +1,5 @@
 use handler_code::{Code, Door, OpCode, Rest};
+use tw_base::Value;
 
 /// What is changed in the code of a protocol.
 #[derive(Clone, Copy, Debug)]
@@ -11,6 +12,8 @@ pub enum Change {
 
 /// Makes the change, if the code has what is changed.
 pub fn make(change: Change, code: &mut Code) {
+    // For the proof alone: it looks for the type of values in an op.
+    let _none: Option<Value> = None;
     match change {
         Change::Op(at, op) => {
             if at < code.ops.len() {

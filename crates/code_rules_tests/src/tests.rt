@@ -33,6 +33,8 @@ fn breaks(
     at: u32,
     rule: u8,
 ) -> Result<(), Fail> {
+    // For the proof alone: it looks for the type of values in an op.
+    let _none: Option<Value> = None;
     let p = protocol(alloc, text.as_bytes())?;
     let mut code = split(alloc, &p)?;
     for c in changes {
