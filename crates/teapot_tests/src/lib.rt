@@ -5,6 +5,8 @@
 #[cfg(test)]
 mod protocols;
 #[cfg(test)]
+mod rows;
+#[cfg(test)]
 mod shown;
 #[cfg(test)]
 mod tests;

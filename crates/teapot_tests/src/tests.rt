@@ -1,5 +1,8 @@
+use crate::rows::{LOOP_ROWS, ROWS};
 use crate::shown::shown;
 use std::alloc::Global;
+use std::fmt::Write;
+use std::process::Abort;
 use std::test::Fail;
 use teapot_interpreter::{is_served, run_in};
 use teapot_meaning::{Ended, Here, StateVal};
@@ -107,7 +110,7 @@ fn message(letter: u8, block: BlockId) -> Message {
 }
 
 pub fn protocol(alloc: Global, text: &[u8]) -> Result<Protocol, Fail> {
-    if text.len() > 10_000 {
+    if text.len() > 2_000_000 {
         return Err(Fail::new("a long text"));
     }
     let lexed = lines(alloc, text)?;
@@ -134,287 +137,124 @@ fn last_shown(alloc: Global, p: &Protocol, letters: &[u8]) -> Result<String, Fai
     Ok(last)
 }
 
-fn text_of(alloc: Global, row: &Row) -> Result<String, Fail> {
-    Ok(format!(in alloc;
-        "Protocol T{}\n{}{}\n{}{}\n{}",
-        row.profile, HEAD, row.go, MIDDLE, row.up, TAIL
-    )?)
-}
-
-struct Row {
-    profile: &'static str,
-    // What A does with GO, and W with UP.
-    go: &'static str,
-    up: &'static str,
-    // A letter for each message, and what the last of them does.
-    letters: &'static str,
-    last: &'static str,
-}
-
-#[test]
-fn statements(rt: HostRuntime) -> Result<(), Fail> {
-    let alloc = rt.alloc();
-    for row in &ROWS {
-        let text = text_of(alloc, row)?;
-        let p = protocol(alloc, text.as_bytes())?;
-        let last = last_shown(alloc, &p, row.letters.as_bytes())?;
-        assert_eq!(rt; last.as_str(), row.last, "{}", row.go);
+// Statements on a line each, which a table has behind one another.
+fn put_lines(out: &mut String, statements: &str) -> Result<(), Fail> {
+    for line in statements.split('/') {
+        write!(out, "{line}\n")?;
     }
     Ok(())
 }
 
-const HEAD: &str =
-    "Message GO(Int, Bool, Node, Set) 0 data\nMessage UP() 1\nInfo n Int\nInfo b Bool\nInfo d Node\nInfo s Set\nHomeStart A ReadWrite\nCacheStart A Invalid\nState A{}\nBegin\nOn GO(i, j, k, l)\nBegin\n";
+// A protocol of this profile, where A does `go` with GO, and W does `up` with UP.
+fn text_of(alloc: Global, profile: &str, go: &str, up: &str) -> Result<String, Fail> {
+    let mut text = String::new(alloc);
+    write!(&mut text, "Protocol T{profile}\n{HEAD}")?;
+    put_lines(&mut text, go)?;
+    write!(&mut text, "{MIDDLE}")?;
+    put_lines(&mut text, up)?;
+    write!(&mut text, "{TAIL}")?;
+    Ok(text)
+}
 
-const MIDDLE: &str =
-    "End\nOn UP()\nBegin\nWakeUp\nEnd\nDefault\nBegin\nEnd\nEnd\nState W{x Int; C}\nBegin\nOn GO(i, j, k, l)\nBegin\nSuspend(L, W{i; L})\nn := (n + 1)\nEnd\nOn UP()\nBegin\n";
+fn are_done(rt: &impl Abort, alloc: Global, profile: &str, rows: &str) -> Result<(), Fail> {
+    for row in rows.split('\n') {
+        let (what, due) = row.split_once(" -> ").unwrap_or(("", ""));
+        let (go, rest) = what.split_once('~').unwrap_or(("", ""));
+        let (up, letters) = rest.split_once('~').unwrap_or(("", ""));
+        let text = text_of(alloc, profile, go, up)?;
+        let p = protocol(alloc, text.as_bytes())?;
+        let last = last_shown(alloc, &p, letters.as_bytes())?;
+        assert_eq!(rt; last.as_str(), due, "{go}");
+    }
+    Ok(())
+}
 
-const TAIL: &str = "End\nDefault\nBegin\nEnqueue\nEnd\nEnd\n";
+#[test]
+fn statements(rt: HostRuntime) -> Result<(), Fail> {
+    are_done(&rt, rt.alloc(), "", ROWS)
+}
 
-static ROWS: [Row; 35] = [
-    Row {
-        profile: "",
-        go: "n := (4294967290 + 10)",
-        up: "",
-        letters: "g",
-        last: "A0() Invalid 5 (4294967295 false @0 {})",
-    },
-    Row {
-        profile: "",
-        go: "n := (2 - i)\nb := ((i <= 3) & (2 < i))",
-        up: "",
-        letters: "g",
-        last: "A0() Invalid 5 (0 true @0 {})",
-    },
-    Row {
-        profile: "",
-        go: "b := (Not((i < 3)) | False)\nn := Count(l)",
-        up: "",
-        letters: "g",
-        last: "A0() Invalid 5 (2 true @0 {})",
-    },
-    Row {
-        profile: "",
-        go: "d := src\ns := With(One(self), home)",
-        up: "",
-        letters: "g",
-        last: "A0() Invalid 5 (0 false @3 {12})",
-    },
-    Row {
-        profile: "",
-        go: "s := Without(l, self)\nb := (s <> l)\nd := home",
-        up: "",
-        letters: "g",
-        last: "A0() Invalid 5 (0 true @2 {4})",
-    },
-    Row {
-        profile: "",
-        go: "b := (Has(l, k) = (k = home))",
-        up: "",
-        letters: "g",
-        last: "A0() Invalid 5 (0 true @0 {})",
-    },
-    Row {
-        profile: "",
-        go: "If j\nBegin\nn := 1\nIf (i = 4)\nBegin\nn := 2\nEnd\nElse\nBegin\nd := self\nEnd\nEnd\nElse\nBegin\nn := 9\nEnd\nb := True",
-        up: "",
-        letters: "g",
-        last: "A0() Invalid 5 (1 true @1 {})",
-    },
-    Row {
-        profile: "",
-        go: "Send(src, UP)\nSend(home, GO, 7, b, self, Empty)\nInstall\nSend(k, GO, (i + n), True, d, l)",
-        up: "",
-        letters: "g",
-        last: "A0() Invalid 9 (0 false @0 {}) UP>3() GO>2(7 false @1 {})+5 GO>3(3 true @0 {14})+9",
-    },
-    Row {
-        profile: "",
-        go: "SendAll(Empty, UP)\nSendAll(l, UP)",
-        up: "",
-        letters: "g",
-        last: "A0() Invalid 5 (0 false @0 {}) UP>1() UP>4()",
-    },
-    Row {
-        profile: "",
-        go: "SendAll(l, UP)",
-        up: "",
-        letters: "a",
-        last: "A0() Invalid 5 (0 false @0 {}) UP>0() UP>1() UP>2() UP>3() UP>4() UP>5() UP>6() UP>7()",
-    },
-    Row {
-        profile: "",
-        go: "SetTag(ReadOnly)\nWakeUp",
-        up: "",
-        letters: "g",
-        last: "A0() ReadOnly 5 (0 false @0 {}) woke",
-    },
-    Row {
-        profile: "",
-        go: "",
-        up: "",
-        letters: "u",
-        last: "A0() Invalid 5 (0 false @0 {}) woke",
-    },
-    Row {
-        profile: "",
-        go: "Error(Bad)",
-        up: "",
-        letters: "r",
-        last: "A0() Invalid 5 (0 false @0 {})",
-    },
-    Row {
-        profile: "",
-        go: "Enqueue\nSetState(A{})",
-        up: "",
-        letters: "g",
-        last: "A0() Invalid 5 (0 false @0 {}) eligible freed",
-    },
-    Row {
-        profile: "",
-        go: "SetState(A{})\nEnqueue",
-        up: "",
-        letters: "g",
-        last: "A0() Invalid 5 (0 false @0 {}) stale freed",
-    },
-    Row {
-        profile: "",
-        go: "Local x Int\nLocal y Node\nLocal z Set\nn := x\ns := z\nd := y\ny := src\nd := y",
-        up: "",
-        letters: "g",
-        last: "A0() Invalid 5 (0 false @3 {})",
-    },
-    Row {
-        profile: "",
-        go: "If b\nBegin\nError(Bad)\nEnd\nn := 1\nError(Worse)\nn := 2",
-        up: "",
-        letters: "g",
-        last: "A0() Invalid 5 (1 false @0 {}) failed 1",
-    },
-    Row {
-        profile: "",
-        go: "n := i\nSuspend(L, W{(n + 1); L})\nn := (n + i)\nSendAll(l, UP)\nd := src\nSetState(A{})",
-        up: "n := (x + 1)\nEnqueue\nResume(C)",
-        letters: "g",
-        last: "W1(4) Invalid 5 (3 false @0 {})",
-    },
-    Row {
-        profile: "",
-        go: "n := i\nSuspend(L, W{(n + 1); L})\nn := (n + i)\nSendAll(l, UP)\nd := src\nSetState(A{})",
-        up: "n := (x + 1)\nEnqueue\nResume(C)",
-        letters: "gr",
-        last: "W1(4) Invalid 5 (3 false @0 {}) stale",
-    },
-    Row {
-        profile: "",
-        go: "n := i\nSuspend(L, W{(n + 1); L})\nn := (n + i)\nSendAll(l, UP)\nd := src\nSetState(A{})",
-        up: "n := (x + 1)\nEnqueue\nResume(C)",
-        letters: "gu",
-        last: "A0() Invalid 5 (8 false @3 {}) UP>1() UP>4() eligible freed",
-    },
-    Row {
-        profile: "",
-        go: "n := i\nSuspend(L, W{(n + 1); L})\nn := (n + i)\nSendAll(l, UP)\nd := src\nSetState(A{})",
-        up: "SetState(W{9})",
-        letters: "gu",
-        last: "W1(9) Invalid 5 (3 false @0 {}) freed",
-    },
-    Row {
-        profile: "",
-        go: "Suspend(L, W{0; L})\nn := (n + 1)",
-        up: "Resume(C)",
-        letters: "gggggggg",
-        last: "W8(3) Invalid 5 (0 false @0 {})",
-    },
-    Row {
-        profile: "",
-        go: "Suspend(L, W{0; L})\nn := (n + 1)",
-        up: "Resume(C)",
-        letters: "ggggggggg",
-        last: "W8(3) Invalid 5 (0 false @0 {}) too deep",
-    },
-    Row {
-        profile: "",
-        go: "Suspend(L, W{0; L})\nn := (n + 1)",
-        up: "Resume(C)",
-        letters: "ggggggggu",
-        last: "W7(3) Invalid 5 (1 false @0 {}) freed",
-    },
-    Row {
-        profile: "",
-        go: "Suspend(L, W{0; L})\nn := (n + 1)",
-        up: "Resume(C)",
-        letters: "gggggggguuuuuuuu",
-        last: "A0() Invalid 5 (8 false @0 {}) freed",
-    },
-    Row {
-        profile: " 2",
-        go: "Local y Node\nForEach y l\nBegin\nn := (n + 1)\nSend(y, UP)\nEnd\nd := y",
-        up: "",
-        letters: "g",
-        last: "A0() Invalid 5 (2 false @4 {}) UP>1() UP>4()",
-    },
-    Row {
-        profile: " 2",
-        go: "Local y Node\nForEach y l\nBegin\nn := (n + 1)\nSend(y, UP)\nEnd\nd := y",
-        up: "",
-        letters: "e",
-        last: "A0() Invalid 5 (0 false @0 {})",
-    },
-    Row {
-        profile: " 2",
-        go: "Local y Node\nForEach y l\nBegin\nn := (n + 1)\nSend(y, UP)\nEnd\nd := y",
-        up: "",
-        letters: "a",
-        last: "A0() Invalid 5 (8 false @7 {}) UP>0() UP>1() UP>2() UP>3() UP>4() UP>5() UP>6() UP>7()",
-    },
-    Row {
-        profile: " 2",
-        go: "Local y Node\nForEach y l\nBegin\nSend(y, UP)\nSuspend(L, W{n; L})\nn := (n + 1)\nEnd\nd := y\nInstall",
-        up: "Resume(C)",
-        letters: "g",
-        last: "W1(0) Invalid 5 (0 false @0 {}) UP>1()",
-    },
-    Row {
-        profile: " 2",
-        go: "Local y Node\nForEach y l\nBegin\nSend(y, UP)\nSuspend(L, W{n; L})\nn := (n + 1)\nEnd\nd := y\nInstall",
-        up: "Resume(C)",
-        letters: "gu",
-        last: "W1(1) Invalid 5 (1 false @0 {}) UP>4() freed",
-    },
-    Row {
-        profile: " 2",
-        go: "Local y Node\nForEach y l\nBegin\nSend(y, UP)\nSuspend(L, W{n; L})\nn := (n + 1)\nEnd\nd := y\nInstall",
-        up: "Resume(C)",
-        letters: "guu",
-        last: "A0() Invalid 9 (2 false @4 {}) freed",
-    },
-    Row {
-        profile: " 2",
-        go: "Local y Node\nForEach y l\nBegin\nSend(y, UP)\nSuspend(L, W{n; L})\nn := (n + 1)\nEnd\nd := y\nInstall",
-        up: "Resume(C)",
-        letters: "e",
-        last: "A0() Invalid 9 (0 false @0 {})",
-    },
-    Row {
-        profile: " 2",
-        go: "Local y Node\nForEach y l\nBegin\nSend(y, UP)\nSuspend(L, W{n; L})\nn := (n + 1)\nEnd\nd := y\nInstall",
-        up: "Resume(C)",
-        letters: "auuuuuuuu",
-        last: "A0() Invalid 9 (8 false @7 {}) freed",
-    },
-    Row {
-        profile: " 2",
-        go: "Local y Node\nLocal z Node\nForEach y l\nBegin\nForEach z l\nBegin\nIf (y = z)\nBegin\nn := (n + 10)\nEnd\nElse\nBegin\nn := (n + 1)\nEnd\nEnd\nEnd",
-        up: "",
-        letters: "g",
-        last: "A0() Invalid 5 (22 false @0 {})",
-    },
-    Row {
-        profile: " 2",
-        go: "Local y Node\ns := l\nForEach y s\nBegin\ns := Without(s, y)\nn := (n + Count(s))\nEnd",
-        up: "",
-        letters: "g",
-        last: "A0() Invalid 5 (1 false @0 {})",
-    },
-];
+#[test]
+fn statements_with_loops(rt: HostRuntime) -> Result<(), Fail> {
+    are_done(&rt, rt.alloc(), " 2", LOOP_ROWS)
+}
+
+// 80,000 statements, one after the other.
+fn many_statements(alloc: Global) -> Result<String, Fail> {
+    let mut go = String::new(alloc);
+    for _ in 0..80_000u32 {
+        write!(&mut go, "n := (n + 1)\n")?;
+    }
+    Ok(go)
+}
+
+// 30,000 errors that are not met, and one that is.
+fn many_errors(alloc: Global) -> Result<String, Fail> {
+    let mut go = String::new(alloc);
+    write!(&mut go, "If False\nBegin\n")?;
+    for k in 0..30_000u32 {
+        write!(&mut go, "Error(E{k})\n")?;
+    }
+    write!(&mut go, "End\nError(Last)")?;
+    Ok(go)
+}
+
+fn go_shown(alloc: Global, go: &str) -> Result<String, Fail> {
+    let p = protocol(alloc, text_of(alloc, "", go, "")?.as_bytes())?;
+    last_shown(alloc, &p, b"g")
+}
+
+#[test]
+fn long_handlers(rt: HostRuntime) -> Result<(), Fail> {
+    let alloc = rt.alloc();
+    let counted = go_shown(alloc, many_statements(alloc)?.as_str())?;
+    assert_eq!(rt; counted.as_str(), "A0() Invalid 5 (80000 false @0 {})");
+    let failed = go_shown(alloc, many_errors(alloc)?.as_str())?;
+    assert_eq!(rt;
+        failed.as_str(),
+        "A0() Invalid 5 (0 false @0 {}) failed 30000"
+    );
+    Ok(())
+}
+
+const HEAD: &str = "\
+Message GO(Int, Bool, Node, Set) 0 data\n\
+Message UP() 1\n\
+Info n Int\n\
+Info b Bool\n\
+Info d Node\n\
+Info s Set\n\
+HomeStart A ReadWrite\n\
+CacheStart A Invalid\n\
+State A{}\n\
+Begin\n\
+On GO(i, j, k, l)\n\
+Begin\n";
+
+const MIDDLE: &str = "\
+End\n\
+On UP()\n\
+Begin\n\
+WakeUp\n\
+End\n\
+Default\n\
+Begin\n\
+End\n\
+End\n\
+State W{x Int; C}\n\
+Begin\n\
+On GO(i, j, k, l)\n\
+Begin\n\
+Suspend(L, W{i; L})\n\
+n := (n + 1)\n\
+End\n\
+On UP()\n\
+Begin\n";
+
+const TAIL: &str = "\
+End\n\
+Default\n\
+Begin\n\
+Enqueue\n\
+End\n\
+End\n";
