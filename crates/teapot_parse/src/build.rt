@@ -8,7 +8,7 @@ use teapot_tree::{Do, Expr, Handler, MessageDecl, Param, Start, State, Stmt, Tri
 use tw_base::{Listed, Memory, Name, Stack};
 
 /// The line that names the protocol.
-#[derive(Debug, Drop)]
+#[derive(Drop)]
 pub struct Head {
     pub name: Name,
     pub profile: u8,
@@ -16,7 +16,7 @@ pub struct Head {
 }
 
 /// The statements of a block that stand so far, and whether it is that of an `Else`.
-#[derive(Debug, Drop)]
+#[derive(Drop)]
 pub struct Block {
     pub is_else: bool,
     pub stmts: Stack<Stmt>,
@@ -24,7 +24,7 @@ pub struct Block {
 
 /// What the lines from some line on give: whole declarations, the handlers of a state and the locals of a handler
 /// whose line is still to come, and the blocks that are open there.
-#[derive(Debug, Drop)]
+#[derive(Drop)]
 pub struct Parts {
     pub head: Option<Head>,
     pub messages: Stack<MessageDecl>,

@@ -25,7 +25,7 @@ pub enum Many {
 }
 
 /// How many there are so far. `locals` and `loops` are those of the last handler, `begins` those without their `End`.
-#[derive(Clone, Copy, Debug)]
+#[derive(Clone, Copy)]
 pub struct Counts {
     pub states: u64,
     pub messages: u64,

@@ -8,7 +8,7 @@ use teapot_lines::{Cut, Form};
 use tw_base::{Memory, Stack};
 
 /// What a line is for the nesting.
-#[derive(Clone, Copy, Debug, PartialEq, Eq)]
+#[derive(Clone, Copy)]
 pub enum Kind {
     Protocol,
     Message,
@@ -26,7 +26,7 @@ pub enum Kind {
 }
 
 /// A block of statements that is open.
-#[derive(Clone, Copy, Debug, PartialEq, Eq)]
+#[derive(Clone, Copy)]
 pub enum Block {
     /// The first one of an `If`.
     First,
@@ -34,7 +34,7 @@ pub enum Block {
 }
 
 /// What may stand next.
-#[derive(Clone, Copy, Debug, PartialEq, Eq)]
+#[derive(Clone, Copy)]
 pub enum Place {
     Start,
     Messages,
@@ -50,7 +50,7 @@ pub enum Place {
     AfterIf,
 }
 
-#[derive(Clone, Copy, Debug, PartialEq, Eq)]
+#[derive(Clone, Copy)]
 pub enum Judged {
     Nested,
     /// The first line that no well nested list has at this place.

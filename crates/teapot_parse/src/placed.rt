@@ -1,7 +1,7 @@
 use teapot_lines::{Cut, Form};
 
 /// A line of a protocol: its number and its form.
-#[derive(Debug, Drop)]
+#[derive(Drop)]
 pub struct Placed {
     pub line: u32,
     pub form: Form<Cut>,

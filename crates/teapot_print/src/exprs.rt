@@ -9,7 +9,7 @@ use tw_base::Memory;
 use tw_lex::Mark;
 
 /// How an operator is written.
-#[derive(Clone, Copy, Debug, PartialEq, Eq)]
+#[derive(Clone, Copy)]
 pub enum Written {
     /// A mark between its operands.
     Infix(Mark),

@@ -12,7 +12,7 @@ use tw_base::{Memory, Name};
 use tw_lex::Mark;
 
 /// What the space before the next token depends on.
-#[derive(Clone, Copy, Debug, PartialEq, Eq)]
+#[derive(Clone, Copy)]
 pub enum Last {
     /// The line begins.
     Begin,
@@ -24,7 +24,7 @@ pub enum Last {
 }
 
 /// The text in the making.
-#[derive(Debug, Drop)]
+#[derive(Drop)]
 pub struct Printer {
     pub text: Text,
     pub last: Last,
