@@ -611,3 +611,28 @@ fn sends_are_counted(rt: HostRuntime) -> Result<(), Fail> {
     }
     Ok(())
 }
+
+// A handler of a message without arguments that names so many, and assigns each to an info.
+fn with_arguments(alloc: Global, count: u32) -> Result<String, Fail> {
+    let mut text = format!(in alloc;
+        "Protocol P\nMessage GO() 0\nInfo v Int\nHomeStart H Invalid\nCacheStart H Invalid\nState H{{}}\nBegin\nOn GO(x"
+    )?;
+    for n in 0..count {
+        text.push_str(format!(in alloc; ",x{n}")?.as_str())?;
+    }
+    text.push_str(")\nBegin\n")?;
+    for n in 0..count {
+        text.push_str(format!(in alloc; "v:=x{n}\n")?.as_str())?;
+    }
+    text.push_str("End\nDefault\nBegin\nEnd\nEnd\n")?;
+    Ok(text)
+}
+
+// Were a name looked for among all others, this would take minutes.
+#[test]
+fn very_many_arguments_are_looked_up(rt: HostRuntime) -> Result<(), Fail> {
+    let text = with_arguments(rt.alloc(), 60_000)?;
+    let got = checked(rt.alloc(), text.as_bytes())?;
+    assert_eq!(rt; got, Some((8, Rule::ArgCount)));
+    Ok(())
+}
