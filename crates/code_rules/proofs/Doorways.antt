@@ -7,7 +7,8 @@ use Rattle.handler_code.specs.declared.code.Code.{Code}
 use Rattle.handler_code.specs.declared.code.Door.{Door}
 use Rattle.handler_code.specs.declared.code.Rest.{Rest}
 use Rattle.code_walks.specs.declared.parts.Part.{Part}
-use Rattle.code_walks.specs.Least.{IsLeast, lesser}
+use Rattle.tw_base.specs.Lists.{lesser}
+use Rattle.code_walks.specs.Least.{IsLeast}
 use Rattle.code_walks.specs.Parts.{AtOp, AtRest, Within, end_of, part_of}
 use Rattle.code_walks.proofs.Leasts.{least_more, same_least}
 

@@ -7,13 +7,13 @@ ghost use Rattle.code_rules.specs.Tests.{BreaksAt, is_broken};
 use crate::fault::Rule;
 use crate::sets::has_own_set;
 use code_walks::{
-    Loop, Part, first_mistyped, first_on_stack, is_done, is_in_range, leads_well, lesser, loops_of,
-    op_at, part_at, slot_types,
+    Loop, Part, first_mistyped, first_on_stack, is_done, is_in_range, leads_well, loops_of, op_at,
+    part_at, slot_types,
 };
 use handler_code::Code;
 use std::alloc::Global;
 use teapot_tree::{Checked, Protocol};
-use tw_base::Memory;
+use tw_base::{Memory, lesser};
 
 /// Whether the op at a place breaks the rule.
 fn is_broken(p: &Protocol, code: &Code, loops: &[Loop], part: Part, rule: Rule, at: u32) -> bool

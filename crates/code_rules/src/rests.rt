@@ -6,11 +6,10 @@ ghost use Rattle.live_slots.specs.Tables.{IsExact};
 
 use crate::serving::is_placed;
 use crate::suspensions::suspensions;
-use code_walks::lesser;
 use handler_code::{Code, Rest};
 use live_slots::{live_table, slots_at};
 use std::alloc::Global;
-use tw_base::Memory;
+use tw_base::{Memory, lesser};
 
 fn rest_at(code: &Code, number: usize) -> Rest
     requires { number < length code.now.rests }

@@ -6,7 +6,8 @@ use Rattle.handler_code.specs.declared.code.Code.{Code}
 use Rattle.handler_code.specs.declared.code.OpCode.{OpCode}
 use Rattle.teapot_tree.specs.declared.protocol.Protocol.{Protocol}
 use Rattle.code_walks.specs.declared.parts.Part.{Part}
-use Rattle.code_walks.specs.Least.{IsLeast, lesser}
+use Rattle.tw_base.specs.Lists.{lesser}
+use Rattle.code_walks.specs.Least.{IsLeast}
 use Rattle.code_walks.specs.Parts.{Within, op_at}
 use Rattle.handler_code.specs.Stacks.{taken_by}
 use Rattle.code_walks.specs.Stacks.{BreaksStack, IsLedTo, LeadsInside, depth_after, depth_at, is_inside, is_served, is_unserved, is_value, target}

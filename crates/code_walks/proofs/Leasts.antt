@@ -2,7 +2,8 @@
 use Rattle.std.proofs.Common.{◌≡◌, ℕ, ◌+◌, ◌<◌, ◌≤◌, ◌⊎◌, min, Option, Some, None, inl, inr, subst, arith}
 use Rattle.std.proofs.lemmas.Bool.{cases_lt}
 use Rattle.code_walks.specs.declared.parts.Part.{Part}
-use Rattle.code_walks.specs.Least.{IsLeast, lesser}
+use Rattle.tw_base.specs.Lists.{lesser}
+use Rattle.code_walks.specs.Least.{IsLeast}
 use Rattle.code_walks.specs.Parts.{Within}
 
 -- nowhere from one place up to another

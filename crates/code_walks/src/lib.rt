@@ -7,13 +7,11 @@
 mod handlers;
 mod jumps;
 mod kinds;
-mod least;
 mod parts;
 mod stacks;
 
 pub use handlers::{handler_of, same_kind};
 pub use jumps::{Loop, is_done, is_in_range, leads_well, loops_of};
 pub use kinds::{first_mistyped, slot_types};
-pub use least::lesser;
 pub use parts::{Part, end_of, op_at, ops_of, part_at};
 pub use stacks::first_on_stack;

@@ -5,10 +5,10 @@ ghost use Rattle.code_walks.specs.Parts.{Within};
 ghost use Rattle.handler_code.specs.Stacks.{taken_by};
 ghost use Rattle.code_walks.specs.Stacks.{BreaksStack, IsLedTo, LeadsInside, depth_after, is_inside, is_served, is_unserved, is_value, target};
 
-use crate::least::lesser;
 use crate::parts::{Part, op_at};
 use handler_code::{Code, OpCode};
 use teapot_tree::Protocol;
+use tw_base::lesser;
 
 /// Whether an op leaves a value on the stack.
 fn is_value(op: &OpCode) -> bool

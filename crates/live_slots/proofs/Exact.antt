@@ -6,7 +6,8 @@ use Rattle.std.proofs.lemmas.Nat.Bits.{bit_at-zero}
 use Rattle.handler_code.specs.declared.code.OpCode.{OpCode}
 use Rattle.handler_code.specs.declared.code.OpCode.TheVariants as op
 use Rattle.handler_code.specs.Live.{HasOp, LeadsTo, ReadsFirst, read_by, reads, later}
-use Rattle.live_slots.specs.Tables.{IsClosed, IsClosedAt, IsExact, IsJustified, IsReadFirst, IsStep, has_slot, is_set, reads_first}
+use Rattle.tw_base.specs.Bits.{has_bit}
+use Rattle.live_slots.specs.Tables.{IsClosed, IsClosedAt, IsExact, IsJustified, IsReadFirst, IsStep, is_set, reads_first}
 
 -- ---- truth values
 
@@ -133,10 +134,10 @@ pub justified_set : (ops : List OpCode) (table : List ℕ) (at bits : ℕ) (o : 
 justified_set ops table at bits o j h lt step place k e = elim (cases_eq place at) [
   | inl same ↦
       let here : slice_index (slice_set table at bits) place ≡ bits = ap (λ n. slice_index (slice_set table at bits) n) same ∙ get_or-set_same table at bits 0 lt in
-      let bit : has_slot bits k ≡ true = sym (ap (λ n. has_slot n k) here) ∙ e in
+      let bit : has_bit bits k ≡ true = sym (ap (λ n. has_bit n k) here) ∙ e in
       subst (λ n. IsReadFirst ops n k) (sym same) (reads_so ops table j at k o h (sym (step k) ∙ bit))
   | inr apart ↦
-      j place k (sym (ap (λ n. has_slot n k) (get_or-set_other table at place bits 0 apart)) ∙ e)
+      j place k (sym (ap (λ n. has_bit n k) (get_or-set_other table at place bits 0 apart)) ∙ e)
 ]
 
 none_at : (n at : ℕ) → slice_index (replicate n 0) at ≡ 0
@@ -147,7 +148,7 @@ none_at (suc n) (suc at) = none_at n at
 -- nothing is set
 pub justified_none : (ops : List OpCode) (n : ℕ) → IsJustified ops (replicate n 0)
 justified_none ops n at k e =
-    let unset : has_slot (slice_index (replicate n 0) at) k ≡ false = ap (λ b. has_slot b k) (none_at n at) ∙ ap (λ b. b == 1) (bit_at-zero k) in
+    let unset : has_bit (slice_index (replicate n 0) at) k ≡ false = ap (λ b. has_bit b k) (none_at n at) ∙ ap (λ b. b == 1) (bit_at-zero k) in
     cc
 
 -- one place more is closed

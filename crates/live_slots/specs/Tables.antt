@@ -1,13 +1,9 @@
 -- Tables of the slots that are read first from each place, a bit for each slot below 32.
 use Rattle.std.specs.Prelude.{ℕ, ◌≡◌, ◌+◌, ◌<◌, ◌==◌, ◌&&◌, ◌||◌, nat_lt, not, Bool, true, false, ◌↔◌, List, slice_index}
-use Rattle.std.specs.Int.{bit_at}
+use Rattle.tw_base.specs.Bits.{has_bit}
 use Rattle.handler_code.specs.declared.code.OpCode.{OpCode}
 use Rattle.handler_code.specs.declared.code.OpCode.TheVariants as op
 use Rattle.handler_code.specs.Live.{HasOp, ReadsFirst}
-
--- the slot is among these
-abbrev pub has_slot : ℕ → ℕ → Bool
-has_slot slots k = bit_at slots k == 1
 
 -- a slot below 32 that a path from the place reads before it writes it
 pub record IsReadFirst (ops : List OpCode) (at k : ℕ) : Type 0 where
@@ -15,7 +11,7 @@ pub record IsReadFirst (ops : List OpCode) (at k : ℕ) : Type 0 where
   pub reads : ReadsFirst ops at k
 
 abbrev pub is_set : List ℕ → ℕ → ℕ → Bool
-is_set table at k = has_slot (slice_index table at) k
+is_set table at k = has_bit (slice_index table at) k
 
 -- the table has for each place the slots below 32 that are read first from there
 abbrev pub IsExact : List OpCode → List ℕ → Type 0
@@ -37,7 +33,7 @@ reads_first _ at t k = t (at + 1) k
 
 -- these are the slots of an op at a place
 abbrev pub IsStep : OpCode → ℕ → List ℕ → ℕ → Type 0
-IsStep o at table slots = (k : ℕ) → has_slot slots k ≡ reads_first o at (is_set table) k
+IsStep o at table slots = (k : ℕ) → has_bit slots k ≡ reads_first o at (is_set table) k
 
 -- another sweep would change nothing at this place
 abbrev pub IsClosedAt : List OpCode → List ℕ → ℕ → Type 0

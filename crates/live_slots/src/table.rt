@@ -1,5 +1,6 @@
 ghost use Rattle.std.specs.Prelude.{ℕ, ◌≡◌, ◌<◌, ◌==◌, ◌&&◌, ◌||◌, nat_lt, not, false, length, slice_index, IfOk, replicate};
-ghost use Rattle.live_slots.specs.Tables.{has_slot, IsClosed, IsClosedAt, IsExact, IsJustified, IsStep};
+ghost use Rattle.tw_base.specs.Bits.{has_bit};
+ghost use Rattle.live_slots.specs.Tables.{IsClosed, IsClosedAt, IsExact, IsJustified, IsStep};
 
 use handler_code::OpCode;
 use std::alloc::Global;
@@ -91,13 +92,13 @@ pub fn slots_at(table: &[u32], at: usize) -> u32
 
 /// These slots and one more, if it is below 32.
 fn with_slot(slots: u32, slot: u8) -> u32
-    ensures { (k : ℕ) → has_slot result k ≡ ((nat_lt slot 32 && (slot == k)) || has_slot slots k) }
+    ensures { (k : ℕ) → has_bit result k ≡ ((nat_lt slot 32 && (slot == k)) || has_bit slots k) }
 {
     if slot < 32 { slots | 1 << slot } else { slots }
 }
 
 fn without_slot(slots: u32, slot: u8) -> u32
-    ensures { (k : ℕ) → has_slot result k ≡ (not (slot == k) && has_slot slots k) }
+    ensures { (k : ℕ) → has_bit result k ≡ (not (slot == k) && has_bit slots k) }
 {
     if slot < 32 {
         slots & !(1 << slot)
@@ -107,7 +108,7 @@ fn without_slot(slots: u32, slot: u8) -> u32
 }
 
 fn either(a: u32, b: u32) -> u32
-    ensures { (k : ℕ) → has_slot result k ≡ (has_slot a k || has_slot b k) }
+    ensures { (k : ℕ) → has_bit result k ≡ (has_bit a k || has_bit b k) }
 {
     a | b
 }

@@ -3,15 +3,15 @@ ghost use Rattle.teapot_meaning.specs.Names.{error_names};
 ghost use Rattle.tw_base.specs.declared.name.Name.{Name};
 
 use std::alloc::Global;
-use teapot_meaning::{error_names, error_number};
+use teapot_meaning::ErrorNames;
 use teapot_tree::Checked;
-use tw_base::{Listed, Memory, Name};
+use tw_base::{Memory, Name};
 
 /// A protocol, and the names of its errors.
-#[derive(Debug, Drop)]
+#[derive(Drop)]
 pub struct Words<'a> {
     pub protocol: &'a Checked,
-    errors: Listed<Name>,
+    errors: ErrorNames,
     ghost listed: { errors ≡ error_names protocol.now },
 }
 
@@ -21,7 +21,7 @@ impl<'a> Words<'a> {
     pub fn new(alloc: Global, protocol: &'a Checked) -> Result<Self, Memory>
         ensures { IfOk result (λ words. words.protocol.now ≡ protocol.now) }
     {
-        let errors = error_names(alloc, protocol.protocol())?;
+        let errors = ErrorNames::of(alloc, protocol.protocol())?;
         Ok(Words { protocol, errors })
     }
 
@@ -29,6 +29,6 @@ impl<'a> Words<'a> {
     pub fn error(&self, name: &Name) -> u32
         ensures { result ≡ error_number self.now.protocol.now name.now }
     {
-        error_number(self.errors.items(), name.bytes())
+        self.errors.number(name.bytes())
     }
 }
