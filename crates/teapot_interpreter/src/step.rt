@@ -1,4 +1,4 @@
-ghost use Rattle.std.specs.Prelude.{◌≡◌, ◌≤◌, ◌∷◌, ◌++◌, IfOk, length, map, nat_le, position, slice_get, unwrap_or};
+ghost use Rattle.std.specs.Prelude.{◌≡◌, ◌≤◌, ◌∷◌, ◌++◌, IfOk, length, map, nat_le, position, unwrap_or};
 ghost use Rattle.std.specs.Str.{bytes_eq};
 ghost use Rattle.teapot_tree.specs.declared.stmt.Do.{out-Do};
 ghost use Rattle.teapot_meaning.specs.declared.state.StateVal.{out-StateVal};
@@ -6,7 +6,7 @@ ghost use Rattle.teapot_meaning.specs.Depth.{depth};
 ghost use Rattle.teapot_meaning.specs.Names.{declared, error_number};
 ghost use Rattle.teapot_tree.specs.Scopes.{message_number, state_number};
 ghost use Rattle.teapot_meaning.specs.Values.{value_of};
-ghost use Rattle.teapot_meaning.specs.Steps.{assigned, assigned_info, branch, deferred, each, ended, freed_kept, installed, least_of, led_to, moved, node_of, out_to, payload_of, resumes, sent, sent_all, set_of, suspends, tagged, turns, values_of, woken};
+ghost use Rattle.teapot_meaning.specs.Steps.{assigned, assigned_info, branch, deferred, each, ended, installed, least_of, led_to, moved, out_to, resumes, sent, sent_all, set_of, suspends, tagged, turns, values_of, woken};
 
 use sqlite_items::Boxed;
 use std::alloc::{AllocError, Global};
