@@ -1,5 +1,5 @@
 -- An answer is one.
-use Rattle.std.proofs.Common.{◌≡◌, ℕ, List, Result, Ok, Err, refl, sym, ap, ◌∙◌}
+use Rattle.std.proofs.Common.{◌≡◌, ℕ, List, true, false, if◌then◌else◌, Result, Ok, Err, sym, ap, subst, ◌∙◌}
 use Rattle.tw_base.specs.declared.entry.Entry.{Entry}
 use Rattle.tempest_input.specs.declared.error.InputError.{InputError}
 use Rattle.tempest_input.specs.declared.error.InputError.TheVariants.{Refused, Memory}
@@ -12,8 +12,14 @@ use Rattle.journal.specs.declared.reports.Options.{Options}
 use Rattle.teapot_tree.specs.declared.protocol.Protocol.{Protocol}
 use Rattle.handler_code.specs.declared.code.Code.{Code}
 use Rattle.compiled_meaning.specs.Whole.{IsCode}
-use Rattle.tempest_run.specs.Answering.{Answer, Answers, AnswersIn, TellsOfCode, TellsOfRun, code_answer, report_answer}
+use Rattle.tempest_run.specs.declared.answer.Answer.{Answer}
+use Rattle.tempest_run.specs.Answering.{Answers, AnswersIn, IsAnswered, TellsOfCode, TellsOfRun, check_answer, code_answer, has_halted, refusal, report_answer, show_answer, status_of}
 use Rattle.tempest_run.specs.Laws.{AnswerIsOne}
+use Rattle.tempest_run.specs.declared.status.Status.TheVariants.{Done, Unfinished}
+use Rattle.tempest_run.proofs.CallLaws.{AnswersAnswer}
+use Rattle.journal.specs.Finals.{finals_of}
+use Rattle.journal.specs.declared.finals.Final.{Final}
+use Rattle.std.specs.List.{list_all}
 use Rattle.tempest_run.specs.Inputs.{input_of}
 
 -- two runs of one schedule are one run
@@ -48,3 +54,26 @@ one_in one code command o (Err Memory) a b x y = absurd x
 
 pub one_answer : RunsAreOne → CodesAreOne → AnswerIsOne
 one_answer one code asked text a b x y = one_in one code asked.command _ (input_of text) a b x y
+
+-- ---- the statuses of answers
+
+report-status : (fs : List Final) → IsAnswered (status_of fs)
+report-status fs = elim (list_all (λ f. has_halted f.outcome) fs) as (λ b. IsAnswered (if b then Done else Unfinished)) [ true ↦ tt | false ↦ tt ]
+
+status-along : (a b : Answer) → a ≡ b → IsAnswered b.status → IsAnswered a.status
+status-along a b e is = subst (λ (x : Answer). IsAnswered x.status) (sym e) is
+
+about-status : (command : Command) (o : Options) (s : Setup) (a : Answer) → Answers command o s a → IsAnswered a.status
+about-status (Serial stride) o s a x = status-along a (report_answer s x.journal x.state o) x.tells (report-status (finals_of s x.state))
+about-status Check o s a x = status-along a (check_answer s.protocol) x tt
+about-status ForCode o s a x = status-along a (code_answer s.protocol x.code) x.tells tt
+about-status Show o s a x = status-along a (show_answer s.protocol) x tt
+
+in-status : (command : Command) (o : Options) (r : Result Setup InputError) (a : Answer) → AnswersIn command o r a → IsAnswered a.status
+in-status command o (Ok s) a x = about-status command o s a x
+in-status command o (Err (Refused number reason)) a x = status-along a (refusal number reason) x tt
+in-status command o (Err Memory) a x = absurd x
+
+-- a text is answered with one of three statuses
+pub answers-answer : AnswersAnswer
+answers-answer q text a x = in-status q.command _ (input_of text) a x

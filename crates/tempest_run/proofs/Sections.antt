@@ -2,18 +2,21 @@
 use Rattle.std.proofs.Common.{◌≡◌, ℕ, ◌*◌, List, [], ◌∷◌, ◌++◌, Result, Ok, Err, refl, ap, sym, subst}
 use Rattle.tw_base.specs.Answers.{◌>>=◌}
 use Rattle.tw_base.specs.Lists.{Each}
+use Rattle.tw_lex.specs.Lines.{lexed}
 use Rattle.tw_lex.specs.declared.token.Line.{Line}
 use Rattle.tw_lex.specs.declared.token.Lexed.{Lexed}
 use Rattle.tw_lex.specs.declared.token.LexError.{LexError}
 use Rattle.tw_lex.specs.declared.token.LexError.TheVariants.{NotAscii, BadToken, Memory}
 use Rattle.teapot_parse.specs.Given.{AreTextLines}
+use Rattle.teapot_parse.specs.Laws.{LexedAreTextLines}
 use Rattle.tempest_input.specs.declared.layout.Choice.{Choice}
 use Rattle.tempest_input.specs.declared.layout.Choice.TheVariants as choices
 use Rattle.tempest_input.specs.declared.layout.Layout.{Layout}
 use Rattle.tempest_input.specs.declared.error.InputError.{InputError}
-use Rattle.tempest_input.specs.Laws.{IsChoice, IsLaidOut}
+use Rattle.tempest_input.specs.Laws.{IsChoice, IsLaidOut, LayoutIsReadBothWays}
+use Rattle.tempest_input.specs.Layout.{laid_out}
 use Rattle.tempest_input.specs.Numbers.{nodes_of, sizes_of, words_of}
-use Rattle.tempest_input.specs.Settings.{Settings, in_line, parsed, settings_of}
+use Rattle.tempest_input.specs.Settings.{Settings, in_line, layout_of, parsed, settings_in, settings_of}
 use Rattle.tempest_run.specs.Inputs.{IsOfText}
 
 each-behind : {X : Type 0} (P : X → Type 0) (front rest : List X) → Each P (front ++ rest) → Each P rest
@@ -31,7 +34,7 @@ own-of-text version (choices.Own line body) lines h all =
     each-front _ body.lines (h.closing ∷ []) inner.1
 own-of-text version (choices.Shipped line which) lines h all = tt
 
-pub section-of-text : (lines : List Line) (l : Layout) → AreTextLines lines → IsLaidOut lines l → IsOfText l.protocol
+section-of-text : (lines : List Line) (l : Layout) → AreTextLines lines → IsLaidOut lines l → IsOfText l.protocol
 section-of-text lines l all h =
     let whole = subst AreTextLines h.lines_are all in
     let behind = each-behind _ h.programs h.protocol (each-behind _ h.inits (h.programs ++ h.protocol) (each-behind _ h.budget (h.inits ++ (h.programs ++ h.protocol)) whole.1.1.1.1)) in
@@ -43,7 +46,7 @@ bind-ok : {A B E : Type 0} (r : Result A E) (f : A → Result B E) (y : B) → (
 bind-ok (Ok x) f y e = (x, refl, e)
 bind-ok (Err x) f y e = absurd cc
 
-pub in_line-ok : (r : Result Lexed LexError) (found : Lexed) → in_line r ≡ Ok found → r ≡ Ok found
+in_line-ok : (r : Result Lexed LexError) (found : Lexed) → in_line r ≡ Ok found → r ≡ Ok found
 in_line-ok (Ok x) found e = ap again e
   where
     again : Result Lexed InputError → Result Lexed LexError
@@ -57,7 +60,7 @@ abbrev protocol_or : Choice → Result Settings InputError → Choice
 protocol_or c (Ok s) = s.protocol
 protocol_or c (Err e) = c
 
-pub settings-protocol : (l : Layout) (s : Settings) → settings_of l ≡ Ok s → s.protocol ≡ l.protocol
+settings-protocol : (l : Layout) (s : Settings) → settings_of l ≡ Ok s → s.protocol ≡ l.protocol
 unfolding settings_of
 settings-protocol l s e =
     let sizes = bind-ok (sizes_of l) _ s e in
@@ -65,3 +68,14 @@ settings-protocol l s e =
     let nodes = bind-ok (nodes_of sizes.0.nodes l.programs) _ s words.2 in
     let programs = bind-ok (parsed l.version.value l.programs) _ s nodes.2 in
     sym (ap (protocol_or l.protocol) programs.2)
+
+-- the section of a text's settings
+pub settings-of-text : LexedAreTextLines → LayoutIsReadBothWays → (text : List ℕ) (s : Settings) → settings_in text ≡ Ok s → IsOfText s.protocol
+unfolding layout_of
+settings-of-text lines layout text s e =
+    let laid = bind-ok (layout_of text) (λ l. settings_of l) s e in
+    let l : Layout = laid.0 in
+    let lexes = bind-ok (in_line (lexed text)) (λ found. laid_out found.all found.list) l laid.1 in
+    let found : Lexed = lexes.0 in
+    let own = section-of-text found.list l (lines text found (in_line-ok (lexed text) found lexes.1)) ((layout found.all found.list l).0 lexes.2) in
+    subst IsOfText (sym (settings-protocol l s laid.2)) own

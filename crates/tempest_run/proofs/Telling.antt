@@ -1,5 +1,5 @@
 -- A run and the report that tells of it.
-use Rattle.std.proofs.Common.{◌≡◌, ℕ, zero, suc, ◌+◌, ◌*◌, ◌^◌, ◌<◌, ◌≤◌, List, Option, length, refl, sym, ap, subst, ◌∙◌, arith}
+use Rattle.std.proofs.Common.{◌≡◌, ℕ, zero, suc, ◌+◌, ◌*◌, ◌^◌, ◌<◌, ◌≤◌, List, Option, length, ap, subst, ◌∙◌, arith}
 use Rattle.tw_base.specs.Shape.{Sizes, IsWithinLimits, handler_budget_of}
 use Rattle.tw_base.specs.declared.entry.Entry.{Entry}
 use Rattle.mini_asm.specs.Run.{Machine, start_of}
@@ -18,7 +18,8 @@ use Rattle.teapot_tree.specs.declared.protocol.Protocol.{Protocol}
 use Rattle.handler_code.specs.declared.code.Code.{Code}
 use Rattle.compiled_meaning.specs.Whole.{IsCode}
 use Rattle.code_text.specs.Texts.{text_of}
-use Rattle.tempest_run.specs.Answering.{Answer, TellsOfCode, report_answer, status_of}
+use Rattle.tempest_run.specs.declared.answer.Answer.{Answer}
+use Rattle.tempest_run.specs.Answering.{TellsOfCode, report_answer, status_of}
 use Rattle.tempest_run.specs.declared.status.Status.{Status}
 use Rattle.tempest_run.specs.declared.status.Status.TheVariants.{Done}
 

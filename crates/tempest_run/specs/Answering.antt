@@ -27,24 +27,28 @@ use Rattle.journal.specs.Finals.{finals_of}
 use Rattle.journal.specs.Gathered.{words_of}
 use Rattle.journal.specs.History.{first_break}
 use Rattle.journal.specs.Laws.{History}
-use Rattle.journal.specs.Reports.{line, report_of}
+use Rattle.journal.specs.Reports.{report_of}
+use Rattle.printed_text.specs.Lines.{line}
+use Rattle.tempest_run.specs.declared.answer.Answer.{Answer}
 use Rattle.tempest_run.specs.declared.status.Status.{Status}
 use Rattle.tempest_run.specs.declared.status.Status.TheVariants as statuses
+use Rattle.stache_tree.specs.Tree.{IsStache}
 use Rattle.tempest_run.specs.Inputs.{input_of}
-
-pub record Answer : Type 0 where
-  pub status : Status
-  pub text : List ℕ
+use Rattle.tempest_run.specs.OneMemory.{OneMemory}
 
 -- ---- runs
 
--- The run of the schedule of this stride. It is a run of the model, and ends in a state where no event is enabled; and what is
--- told of its history is so: one flat memory explains it, or the break is the first.
-pub record IsSerialRun (s : Setup) (stride : ℕ) (j : List Entry) (g : World) : Type 0 where
-  pub schedule : Settles s stride 0 (start s) j g
+-- A run of the model to a state in which no event can happen; and what is told of its history is so: one flat memory explains
+-- it, or the break is the first.
+pub record IsQuietRun (s : Setup) (j : List Entry) (g : World) : Type 0 where
   pub run : Runs s (start s) j g
   pub quiet : IsQuiet s g
   pub history : History s j g (first_break s j)
+
+-- the quiet run of the schedule of this stride
+pub record IsSerialRun (s : Setup) (stride : ℕ) (j : List Entry) (g : World) : Type 0 where
+  pub schedule : Settles s stride 0 (start s) j g
+  pub quiet_run : IsQuietRun s j g
 
 abbrev pub has_halted : Outcome → Bool
 has_halted outcomes.Halted = true
@@ -61,11 +65,12 @@ status_of finals = if list_all (λ f. has_halted f.outcome) finals then statuses
 abbrev pub report_answer : Setup → List Entry → World → Options → Answer
 report_answer s j g o = record { status = status_of (finals_of s g); text = report_of s j (finals_of s g) (words_of s g) (first_break s j) o }
 
--- the answer tells of the serial run of this stride
+-- the answer tells of the serial run of this stride; under the shipped protocol one memory explains it
 pub record TellsOfRun (s : Setup) (stride : ℕ) (o : Options) (a : Answer) : Type 0 where
   pub journal : List Entry
   pub state : World
   pub run : IsSerialRun s stride journal state
+  pub one_memory : IsStache s.protocol → OneMemory s journal state
   pub tells : a ≡ report_answer s journal state o
 
 -- ---- refusals, and answers about a protocol

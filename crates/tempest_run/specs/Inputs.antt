@@ -1,7 +1,6 @@
 -- What a text sets up: a machine with its programs, and the protocol that it runs under.
 use Rattle.std.specs.Prelude.{ℕ, List, Option, Some, None, Result, Ok, Err}
 use Rattle.tw_base.specs.Answers.{◌>>=◌}
-use Rattle.tw_lex.specs.Lines.{lexed}
 use Rattle.teapot_tree.specs.declared.protocol.Protocol.{Protocol}
 use Rattle.teapot_parse.specs.declared.reading.ParseError.{ParseError}
 use Rattle.teapot_parse.specs.declared.reading.ParseError.TheVariants as teapot
@@ -17,19 +16,23 @@ use Rattle.tempest_input.specs.declared.error.InputError.{InputError}
 use Rattle.tempest_input.specs.declared.error.InputError.TheVariants as errors
 use Rattle.tempest_input.specs.declared.error.Why.{Why}
 use Rattle.tempest_input.specs.declared.error.Why.TheVariants as why
+use Rattle.tempest_input.specs.declared.head.Shipped.{Shipped}
+use Rattle.tempest_input.specs.declared.head.Shipped.TheVariants.{Stache}
 use Rattle.tempest_input.specs.declared.layout.Body.{Body}
 use Rattle.tempest_input.specs.declared.layout.Choice.{Choice}
 use Rattle.tempest_input.specs.declared.layout.Choice.TheVariants as choices
-use Rattle.tempest_input.specs.Layout.{laid_out}
-use Rattle.tempest_input.specs.Settings.{Settings, in_line, settings_of}
+use Rattle.tempest_input.specs.Settings.{Settings, settings_in}
 
--- a protocol, or what its lines are refused for
+-- what the lines of a protocol are refused for
+abbrev pub unread : ParseError → InputError
+unread (teapot.BadLine line) = errors.Refused line why.BadLine
+unread (teapot.BadNest line) = errors.Refused line why.BadNest
+unread (teapot.TooMany what line) = errors.Refused line why.TooMany
+unread teapot.Memory = errors.Memory
+
 abbrev pub in_protocol : Result Protocol ParseError → Result Protocol InputError
 in_protocol (Ok p) = Ok p
-in_protocol (Err (teapot.BadLine line)) = Err (errors.Refused line why.BadLine)
-in_protocol (Err (teapot.BadNest line)) = Err (errors.Refused line why.BadNest)
-in_protocol (Err (teapot.TooMany what line)) = Err (errors.Refused line why.TooMany)
-in_protocol (Err teapot.Memory) = Err errors.Memory
+in_protocol (Err e) = Err (unread e)
 
 abbrev pub broken_rule : Rule → Why
 broken_rule rules.Undeclared = why.Undeclared
@@ -61,11 +64,15 @@ abbrev pub or_memory : Option Protocol → Result Protocol InputError
 or_memory (Some p) = Ok p
 or_memory None = Err errors.Memory
 
--- the protocol of the text's section, else Stache
+-- a protocol that is shipped, by its name
+abbrev pub shipped_protocol : Shipped → Result Protocol InputError
+shipped_protocol Stache = or_memory shipped
+
+-- the protocol of the text's section, or the one that it names, else Stache
 unfoldable pub protocol_of : Choice → Result Protocol InputError
-protocol_of choices.Default = or_memory shipped
+protocol_of choices.Default = shipped_protocol Stache
 protocol_of (choices.Own line body) = section_protocol body
-protocol_of (choices.Shipped line which) = or_memory shipped
+protocol_of (choices.Shipped line which) = shipped_protocol which
 
 -- the lines of the section, if there is one, are as they stand in a text
 abbrev pub IsOfText : Choice → Type 0
@@ -80,8 +87,4 @@ under s p = record { version = s.version; shape = s.shape; init = s.init; progra
 -- What a text sets up, or its first fault: first of its tokens, then of its layout, of its numbers, of its programs, and of
 -- its protocol.
 unfoldable pub input_of : List ℕ → Result Setup InputError
-input_of text =
-    in_line (lexed text) >>= λ found.
-    laid_out found.all found.list >>= λ layout.
-    settings_of layout >>= λ settings.
-    protocol_of settings.protocol >>= λ p. Ok (under settings p)
+input_of text = settings_in text >>= λ s. protocol_of s.protocol >>= λ p. Ok (under s p)

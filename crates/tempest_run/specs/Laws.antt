@@ -1,7 +1,8 @@
 -- What is answered is one.
 use Rattle.std.specs.Prelude.{◌≡◌, ℕ, List}
 use Rattle.tempest_words.specs.declared.request.Asked.{Asked}
-use Rattle.tempest_run.specs.Answering.{Answer, IsAnswer}
+use Rattle.tempest_run.specs.declared.answer.Answer.{Answer}
+use Rattle.tempest_run.specs.Answering.{IsAnswer}
 
 -- the status and the text are a function of the words and the input
 abbrev pub AnswerIsOne : Type 0

@@ -1,12 +1,12 @@
 ghost use Rattle.std.specs.Prelude.{◌≡◌, ◌≤◌, length, IfOk};
 ghost use Rattle.std.specs.List.{flat_map};
-ghost use Rattle.tempest_run.specs.Answering.{IsAnswered, check_answer};
+ghost use Rattle.tempest_run.specs.Answering.{check_answer};
 
 use crate::answer::Answer;
 use crate::status::Status;
 use std::alloc::Global;
 use teapot_tree::{Checked, State};
-use tw_base::Memory;
+use tw_base::{Listed, Memory};
 
 // How many handlers there are in all.
 fn handlers_in(states: &[State]) -> usize
@@ -22,8 +22,7 @@ fn handlers_in(states: &[State]) -> usize
 
 /// What an accepted protocol has.
 pub fn check_answer(alloc: Global, protocol: &Checked) -> Result<Answer, Memory>
-    ensures value { IfOk result (λ a. check_answer protocol.now ≡ record { status = a.status; text = a.text.items }) }
-    ensures answered { IfOk result (λ a. IsAnswered a.status) }
+    ensures { IfOk result (λ a. a ≡ check_answer protocol.now) }
 {
     let p = protocol.protocol();
     let (messages, infos) = (p.messages.len(), p.infos.len());
@@ -36,6 +35,6 @@ pub fn check_answer(alloc: Global, protocol: &Checked) -> Result<Answer, Memory>
     text.extend_from_slice(counts.as_bytes())?;
     Ok(Answer {
         status: Status::Done,
-        text,
+        text: Listed::of(text),
     })
 }

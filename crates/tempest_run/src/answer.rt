@@ -1,6 +1,6 @@
 ghost use Rattle.std.specs.Prelude.{◌≡◌, ◌+◌, ◌^◌, ◌<◌, length, IfOk};
 ghost use Rattle.std.specs.List.{list_all};
-ghost use Rattle.tempest_run.specs.Answering.{Answers, IsAnswer, IsAnswered, TellsOfCode, TellsOfRun, has_halted, options_of, refusal, show_answer, status_of, why_text};
+ghost use Rattle.tempest_run.specs.Answering.{Answers, IsAnswer, TellsOfCode, TellsOfRun, has_halted, options_of, refusal, show_answer, status_of, why_text};
 
 use crate::accepted::check_answer;
 use crate::input::read_input;
@@ -8,21 +8,21 @@ use crate::status::Status;
 use code_text::code_text;
 use dsm_model::{Global, settle};
 use dsm_runs::{Outcome, Setup, runs_are_short, schedules_are_one_run};
-use suspend_split::split;
 use journal::{Final, Options, finals_of, first_break, history_is_told, report, words_of};
 use mini_asm::Flat;
 use std::alloc;
+use suspend_split::split;
 use teapot_print::print;
 use teapot_tree::Checked;
 use tempest_input::{InputError, Why};
 use tempest_words::{Asked, Command};
-use tw_base::Memory;
+use tw_base::{Listed, Memory};
 
 /// What is written for a text, and with which status.
 #[derive(Debug, Drop)]
 pub struct Answer {
     pub status: Status,
-    pub text: Vec<u8>,
+    pub text: Listed<u8>,
 }
 
 fn why_text(why: Why) -> &'static str
@@ -55,13 +55,12 @@ fn why_text(why: Why) -> &'static str
 }
 
 fn refusal(alloc: alloc::Global, number: u32, why: Why) -> Result<Answer, Memory>
-    ensures value { IfOk result (λ a. refusal number why ≡ record { status = a.status; text = a.text.items }) }
-    ensures answered { IfOk result (λ a. IsAnswered a.status) }
+    ensures { IfOk result (λ a. a ≡ refusal number why) }
 {
     let reason = why_text(why);
     Ok(Answer {
         status: Status::Refused,
-        text: format!(in alloc; "refused line {number} {reason}\n")?.into_bytes(),
+        text: Listed::of(format!(in alloc; "refused line {number} {reason}\n")?.into_bytes()),
     })
 }
 
@@ -79,8 +78,7 @@ fn have_halted(finals: &[Final]) -> bool
 
 // Done where every node has halted.
 fn status_of(finals: &[Final]) -> Status
-    ensures value { result ≡ status_of finals.now }
-    ensures answered { IsAnswered result }
+    ensures { result ≡ status_of finals.now }
 {
     if have_halted(finals) {
         Status::Done
@@ -96,8 +94,7 @@ fn report_answer(
     stride: u32,
     options: Options,
 ) -> Result<Answer, Memory>
-    ensures value { IfOk result (λ a. TellsOfRun setup.now stride options (record { status = a.status; text = a.text.items })) }
-    ensures answered { IfOk result (λ a. IsAnswered a.status) }
+    ensures { IfOk result (λ a. TellsOfRun setup.now stride options a) }
 {
     schedules_are_one_run();
     runs_are_short();
@@ -119,31 +116,29 @@ fn report_answer(
     )?;
     Ok(Answer {
         status: status_of(finals.items()),
-        text,
+        text: Listed::of(text),
     })
 }
 
 // The canonical text of a protocol.
 fn show_answer(alloc: alloc::Global, protocol: &Checked) -> Result<Answer, Memory>
-    ensures value { IfOk result (λ a. show_answer protocol.now ≡ record { status = a.status; text = a.text.items }) }
-    ensures answered { IfOk result (λ a. IsAnswered a.status) }
+    ensures { IfOk result (λ a. a ≡ show_answer protocol.now) }
 {
     Ok(Answer {
         status: Status::Done,
-        text: print(alloc, protocol.protocol())?,
+        text: Listed::of(print(alloc, protocol.protocol())?),
     })
 }
 
 // The text of the code of a protocol's handlers.
 fn code_answer(alloc: alloc::Global, protocol: &Checked) -> Result<Answer, Memory>
-    ensures value { IfOk result (λ a. TellsOfCode protocol.now (record { status = a.status; text = a.text.items })) }
-    ensures answered { IfOk result (λ a. IsAnswered a.status) }
+    ensures { IfOk result (λ a. TellsOfCode protocol.now a) }
 {
     let code = split(alloc, protocol)?;
     let text = code_text(alloc, protocol, &code)?;
     Ok(Answer {
         status: Status::Done,
-        text,
+        text: Listed::of(text),
     })
 }
 
@@ -158,8 +153,7 @@ fn options_of(asked: Asked) -> Options
 
 // The answer about what a text sets up.
 fn answer_about(alloc: alloc::Global, asked: Asked, setup: &Setup) -> Result<Answer, Memory>
-    ensures value { IfOk result (λ a. Answers asked.command (options_of asked) setup.now (record { status = a.status; text = a.text.items })) }
-    ensures answered { IfOk result (λ a. IsAnswered a.status) }
+    ensures { IfOk result (λ a. Answers asked.command (options_of asked) setup.now a) }
 {
     match asked.command {
         Command::Serial(stride) => report_answer(alloc, setup, stride, options_of(asked)),
@@ -172,8 +166,7 @@ fn answer_about(alloc: alloc::Global, asked: Asked, setup: &Setup) -> Result<Ans
 /// The answer to a text.
 pub fn answer_to(alloc: alloc::Global, asked: Asked, text: &[u8]) -> Result<Answer, Memory>
     requires { length text.now + 2 < 2 ^ 32 }
-    ensures value { IfOk result (λ a. IsAnswer asked text.now (record { status = a.status; text = a.text.items })) }
-    ensures answered { IfOk result (λ a. IsAnswered a.status) }
+    ensures { IfOk result (λ a. IsAnswer asked text.now a) }
 {
     match read_input(alloc, text) {
         Ok(setup) => answer_about(alloc, asked, &setup),

@@ -1,21 +1,19 @@
-ghost use Rattle.std.specs.Prelude.{◌≡◌, ◌+◌, ◌^◌, ◌<◌, length, IfOk};
+ghost use Rattle.std.specs.Prelude.{◌≡◌, ◌+◌, ◌^◌, ◌<◌, length};
 ghost use Rattle.tw_base.specs.Answers.{Gives};
 ghost use Rattle.teapot_tree.specs.Grammar.{IsTree};
 ghost use Rattle.teapot_parse.specs.Given.{AreTextLines};
 ghost use Rattle.tempest_input.specs.Layout.{is_memory};
-ghost use Rattle.tempest_run.specs.Inputs.{IsOfText, accepted, broken_rule, input_of, protocol_of, section_protocol, under};
+ghost use Rattle.tempest_run.specs.Inputs.{IsOfText, accepted, broken_rule, input_of, protocol_of, section_protocol, shipped_protocol, under};
 
 use dsm_runs::Setup;
-use mini_asm::Program;
 use stache_protocol::stache;
 use std::alloc::Global;
 use teapot_check::{CheckError, check};
 use teapot_parse::{ParseError, parse, read_trees_are_given, texts_have_text_lines};
 use teapot_tree::{Checked, Protocol, Rule};
 use tempest_input::{
-    Body, Choice, InputError, Why, laid_out, layout_is_read_both_ways, lexed, settings_of,
+    Body, Choice, InputError, Settings, Shipped, Why, layout_is_read_both_ways, settings_in,
 };
-use tw_base::{Listed, Memory};
 
 fn refused(line: u32, why: Why) -> InputError
     ensures { result ≡ InputError.Refused line why }
@@ -69,7 +67,15 @@ fn section_protocol(alloc: Global, body: &Body) -> Result<Checked, InputError>
     }
 }
 
-// The protocol of the text's section, else Stache.
+fn shipped_protocol(alloc: Global, which: Shipped) -> Result<Checked, InputError>
+    ensures { Gives is_memory (λ p. p) result (shipped_protocol which) }
+{
+    match which {
+        Shipped::Stache => Ok(stache(alloc)?),
+    }
+}
+
+// The protocol of the text's section, or the one that it names, else Stache.
 #[tactic(auto, unfolding(crate::specs::Inputs::protocol_of))]
 fn protocol_of(alloc: Global, choice: &Choice) -> Result<Checked, InputError>
     requires { IsOfText choice.now }
@@ -77,28 +83,18 @@ fn protocol_of(alloc: Global, choice: &Choice) -> Result<Checked, InputError>
 {
     match choice {
         Choice::Own(_, body) => section_protocol(alloc, body),
-        Choice::Default | Choice::Shipped(_, _) => Ok(stache(alloc)?),
+        Choice::Default => shipped_protocol(alloc, Shipped::Stache),
+        Choice::Shipped(_, which) => shipped_protocol(alloc, *which),
     }
-}
-
-fn copies(alloc: Global, programs: &[Program]) -> Result<Vec<Program>, Memory>
-    ensures { IfOk result (λ copies. copies.items ≡ programs.now) }
-{
-    let mut copies = Vec::new(alloc);
-    for program in programs {
-        copies.push(program.copied(alloc)?)?;
-    }
-    Ok(copies)
 }
 
 // The settings of a text, under a protocol.
-fn under(alloc: Global, settings: &tempest_input::Setup, protocol: Checked) -> Result<Setup, Memory>
-    ensures { IfOk result (λ setup. setup ≡ under settings.now protocol) }
+fn under(settings: Settings, protocol: Checked) -> Setup
+    ensures { result ≡ under settings protocol }
 {
-    let init = Listed::from_slice(alloc, settings.init())?;
-    let programs = Listed::of(copies(alloc, settings.programs())?);
-    let (version, shape) = (settings.version(), settings.shape());
-    Ok(Setup::new(version, shape, init, programs, protocol))
+    let version = settings.version();
+    let (shape, init, programs) = settings.into_parts();
+    Setup::new(version, shape, init, programs, protocol)
 }
 
 /// What a text sets up, or its first fault. The text has at most 1,048,576 bytes.
@@ -109,9 +105,7 @@ pub fn read_input(alloc: Global, text: &[u8]) -> Result<Setup, InputError>
 {
     texts_have_text_lines();
     layout_is_read_both_ways();
-    let found = lexed(alloc, text)?;
-    let layout = laid_out(alloc, found.all, found.list)?;
-    let settings = settings_of(alloc, layout)?;
+    let settings = settings_in(alloc, text)?;
     let protocol = protocol_of(alloc, settings.protocol())?;
-    Ok(under(alloc, &settings, protocol)?)
+    Ok(under(settings, protocol))
 }

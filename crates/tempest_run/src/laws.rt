@@ -1,7 +1,15 @@
+ghost use Rattle.tempest_run.specs.CallLaws.{InputIsAnswered, LengthIsRefused, StatusesSay, WordsAreRefused};
 ghost use Rattle.tempest_run.specs.Laws.{AnswerIsOne};
+ghost use Rattle.tempest_run.specs.Refusals.{RefusalIsOfAKind, RefusalIsOne, TextIsNeverBoth, TextIsNoMemory, TextIsValidOrRefused};
 
-use dsm_runs::schedules_are_one_run;
 use compiled_meaning::one_code;
+use dsm_runs::schedules_are_one_run;
+use stache_protocol::shipped_text_is_stache;
+use teapot_parse::{
+    given_lines_are_read, read_trees_are_given, refusals_are_exact, refusals_are_first,
+    texts_have_text_lines,
+};
+use tempest_input::{input_is_valid_or_refused, layout_is_read_both_ways};
 
 /// The status and what is written are a function of the words and the input.
 pub fn answer_is_one()
@@ -10,3 +18,35 @@ pub fn answer_is_one()
     schedules_are_one_run();
     one_code();
 }
+
+/// A text sets something up, or it is refused at one line for one reason, from its tokens to the rules of its protocol. It
+/// is refused exactly for a reason of one of the kinds, of which each says that the kinds before it do not apply.
+pub fn text_is_valid_or_refused()
+    ensures some { TextIsValidOrRefused }
+    ensures apart { TextIsNeverBoth }
+    ensures one { RefusalIsOne }
+    ensures kinds { RefusalIsOfAKind }
+    ensures no_memory { TextIsNoMemory }
+{
+    input_is_valid_or_refused();
+    layout_is_read_both_ways();
+    texts_have_text_lines();
+    read_trees_are_given();
+    given_lines_are_read();
+    refusals_are_first();
+    refusals_are_exact();
+    shipped_text_is_stache();
+}
+
+/// What each status of a call says of what was got and of what was written.
+pub fn statuses_say()
+    ensures { StatusesSay }
+{}
+
+/// A call in which no end failed refuses words that are no command, refuses an input that is too long, and answers any
+/// other, unless memory ran out.
+pub fn calls_that_do_not_fail_answer()
+    ensures words { WordsAreRefused }
+    ensures length { LengthIsRefused }
+    ensures input { InputIsAnswered }
+{}

@@ -4,6 +4,8 @@
 
 mod accepted;
 mod answer;
+mod due;
+mod given;
 mod input;
 mod laws;
 mod status;
@@ -11,7 +13,9 @@ mod top;
 
 pub use dsm_runs::Setup;
 pub use input::read_input;
-pub use laws::answer_is_one;
+pub use laws::{
+    answer_is_one, calls_that_do_not_fail_answer, statuses_say, text_is_valid_or_refused,
+};
 pub use status::Status;
 pub use tempest_input::{InputError, Why};
 pub use top::tempest_plain;

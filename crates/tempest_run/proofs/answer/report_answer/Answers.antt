@@ -1,10 +1,10 @@
-use Rattle.std.proofs.Common.{◌≡◌, ◌<◌, ◌^◌, List, ℕ, length, refl, sym, ap, subst, ◌∙◌}
+use Rattle.std.proofs.Common.{◌≡◌, ◌<◌, ◌^◌, List, length, sym, ap, subst, ◌∙◌}
 use Rattle.tw_base.specs.declared.entry.Entry.{Entry}
-use Rattle.dsm_runs.specs.Schedules.{Settles}
 use Rattle.dsm_runs.specs.Worlds.{start}
 use Rattle.dsm_model.specs.Globals.{setup_of, world_of}
 use Rattle.journal.specs.Finals.{finals_of}
 use Rattle.journal.specs.Gathered.{words_of}
+use Rattle.tempest_run.proofs.OneMemory.{one_memory}
 use Rattle.tempest_run.proofs.Telling.{broken_is, from_start, short, tale}
 use Rattle.tempest_run.proofs.answer.report_answer.Goals as goal
 
@@ -17,8 +17,8 @@ first_break-broken-requires c =
     let events = c.runs_are_short.ensures.events s j (world_of c.settle.new.g) run in
     subst (λ (xs : List Entry). length xs < 2 ^ 32) (sym c.items.ensures) (short s.shape j c.shape.ensures.valid.limits events)
 
-pub returns-clause-value : goal.returns-clause-value
-returns-clause-value c =
+pub returns : goal.returns
+returns c =
     let s = c.args.setup.now in
     let o = c.args.options in
     let j = c.in_ok-entries.entries in
@@ -35,10 +35,13 @@ returns-clause-value c =
       state = h;
       run = record {
         schedule = settles;
-        run = run;
-        quiet = c.schedules_are_one_run.ensures.quiet s c.args.stride 0 (start s) j h settles;
-        history = c.history_is_told.ensures s j h c.shape.ensures.valid run;
+        quiet_run = record {
+          run = run;
+          quiet = c.schedules_are_one_run.ensures.quiet s c.args.stride 0 (start s) j h settles;
+          history = c.history_is_told.ensures s j h c.shape.ensures.valid run;
+        };
       };
-      tells = tale s o j c.items-2.result.now h c.items-3.result.now c.items-5.result.now c.items-4.result.now c.first_break-broken.result c.status_of.result c.in_ok-text.text.items
-          c.items-2.ensures (c.items-3.ensures ∙ finals) (c.items-5.ensures ∙ finals) (c.items-4.ensures ∙ words) broken c.status_of.ensures.value c.in_ok-text.ensures;
+      one_memory = λ is. one_memory s j h c.shape.ensures.valid is run (c.schedules_are_one_run.ensures.quiet s c.args.stride 0 (start s) j h settles);
+      tells = tale s o j c.items-2.result.now h c.items-3.result.now c.items-5.result.now c.items-4.result.now c.first_break-broken.result c.status_of.result c.of.result
+          c.items-2.ensures (c.items-3.ensures ∙ finals) (c.items-5.ensures ∙ finals) (c.items-4.ensures ∙ words) broken c.status_of.ensures (c.of.ensures ∙ c.in_ok-text.ensures);
     }

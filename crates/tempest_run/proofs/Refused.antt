@@ -1,0 +1,194 @@
+-- A text sets something up or is refused, at one line for one reason.
+use Rattle.std.proofs.Common.{◌≡◌, ◌⊎◌, ◌∙◌, ℕ, List, Option, Some, None, Result, Ok, Err, refl, sym, ap, subst, inl, inr}
+use Rattle.tw_base.specs.Answers.{◌>>=◌}
+use Rattle.tw_lex.specs.declared.token.Line.{Line}
+use Rattle.teapot_tree.specs.declared.protocol.Protocol.{Protocol}
+use Rattle.teapot_tree.specs.declared.rule.Rule.{Rule}
+use Rattle.teapot_tree.specs.Grammar.{IsTree}
+use Rattle.teapot_tree.specs.Rules.{IsFirstBreak}
+use Rattle.teapot_rules.specs.declared.fault.Fault.{Fault}
+use Rattle.teapot_rules.specs.Firsts.{all_rules, first_of_rules}
+use Rattle.teapot_rules.proofs.Firstly.{is_first}
+use Rattle.teapot_parse.specs.declared.reading.ParseError.{ParseError}
+use Rattle.teapot_parse.specs.declared.reading.ParseError.TheVariants as teapot
+use Rattle.teapot_parse.specs.Given.{AreTextLines, IsGiven}
+use Rattle.teapot_parse.specs.Laws.{LexedAreTextLines}
+use Rattle.teapot_parse.specs.Parsing.{parsed}
+use Rattle.teapot_parse.specs.Refusing.{Refuses}
+use Rattle.stache_protocol.specs.Laws.{TextIsStache}
+use Rattle.dsm_runs.specs.Setups.{Setup}
+use Rattle.tempest_input.specs.declared.error.InputError.{InputError}
+use Rattle.tempest_input.specs.declared.error.InputError.TheVariants.{Refused, Memory}
+use Rattle.tempest_input.specs.declared.error.Why.{Why}
+use Rattle.tempest_input.specs.declared.head.Shipped.{Shipped}
+use Rattle.tempest_input.specs.declared.head.Shipped.TheVariants.{Stache}
+use Rattle.tempest_input.specs.declared.layout.Body.{Body}
+use Rattle.tempest_input.specs.declared.layout.Choice.{Choice}
+use Rattle.tempest_input.specs.declared.layout.Choice.TheVariants as choices
+use Rattle.tempest_input.specs.Laws.{InputIsNoMemory, LayoutIsReadBothWays, RefusalIsOfAKind as EarlyIsOfAKind}
+use Rattle.tempest_input.specs.Settings.{Settings, settings_in}
+use Rattle.tempest_run.specs.Inputs.{IsOfText, accepted, broken_rule, in_protocol, input_of, or_memory, protocol_of, section_protocol, shipped_protocol, under, unless_broken, unread}
+use Rattle.tempest_run.specs.Refusals.{HasSection, IsRefused, RefusalIsOfAKind, RefusalIsOne, TextIsNeverBoth, TextIsNoMemory, TextIsValidOrRefused, breaks, early, no_tree}
+use Rattle.tempest_run.proofs.Accepting.{first_broken}
+use Rattle.tempest_run.proofs.Sections.{settings-of-text}
+
+-- the laws below, that the definitions of this crate are over
+pub record Laws : Type 0 where
+  pub early : EarlyIsOfAKind
+  pub no_memory : InputIsNoMemory
+  pub layout : LayoutIsReadBothWays
+  pub text_lines : LexedAreTextLines
+  pub given : (lines : List Line) (p : Protocol) (after : ℕ) → AreTextLines lines → parsed lines after ≡ Ok p → IsTree p × IsGiven lines p
+  pub read : (lines : List Line) (p : Protocol) (after : ℕ) → IsTree p → IsGiven lines p → parsed lines after ≡ Ok p
+  pub refuses : (lines : List Line) (after : ℕ) (e : ParseError) → parsed lines after ≡ Err e → Refuses lines after e
+  pub refused : (lines : List Line) (after : ℕ) (e : ParseError) → Refuses lines after e → parsed lines after ≡ Err e
+  pub stache : TextIsStache
+
+-- what comes of the settings of a text
+abbrev set_up : Result Settings InputError → Result Setup InputError
+set_up r = r >>= λ s. protocol_of s.protocol >>= λ p. Ok (under s p)
+
+abbrev joined : Settings → Result Protocol InputError → Result Setup InputError
+joined s r = r >>= λ p. Ok (under s p)
+
+input-is : (text : List ℕ) → input_of text ≡ set_up (settings_in text)
+unfolding input_of
+input-is text = refl
+
+joined-err : (s : Settings) (r : Result Protocol InputError) (e : InputError) → joined s r ≡ Err e → r ≡ Err e
+joined-err s (Ok p) e h = absurd (cc h)
+joined-err s (Err x) e h = let same : x ≡ e = cc h in ap Err same
+
+-- the shipped protocol is there
+shipped-is : TextIsStache → (which : Shipped) (e : InputError) → shipped_protocol which ≡ Err e → ⊥
+shipped-is is Stache e h = let there = ap or_memory is.1 in absurd (cc (there, h))
+
+-- ---- a refusal that is found is of a kind
+
+broken-is : (p : Protocol) (f : Option Fault) (line : ℕ) (why : Why) → first_of_rules p all_rules ≡ f → unless_broken f p ≡ Err (Refused line why)
+    → (rule : Rule) × IsFirstBreak p line rule × (why ≡ broken_rule rule)
+broken-is p None line why is h = absurd (cc h)
+broken-is p (Some f) line why is h =
+    let at : f.line ≡ line = cc h in
+    let for : broken_rule f.rule ≡ why = cc h in
+    (f.rule, subst (λ n. IsFirstBreak p n f.rule) at (is_first p f is), sym for)
+
+accepted-is : (p : Protocol) (line : ℕ) (why : Why) → accepted p ≡ Err (Refused line why) → (rule : Rule) × IsFirstBreak p line rule × (why ≡ broken_rule rule)
+unfolding accepted
+accepted-is p line why h = broken-is p (first_of_rules p all_rules) line why refl h
+
+section-back : Laws → (text : List ℕ) (body : Body) (line : ℕ) (why : Why) → HasSection text body → AreTextLines body.lines → section_protocol body ≡ Err (Refused line why)
+    → IsRefused text line why
+unfolding section_protocol
+section-back laws text body line why has lines h = go (parsed body.lines body.end) refl h
+  where
+    go : (r : Result Protocol ParseError) → parsed body.lines body.end ≡ r → (in_protocol r >>= λ p. accepted p) ≡ Err (Refused line why) → IsRefused text line why
+    go (Ok p) is f =
+        let tree = laws.given body.lines p body.end lines is in
+        let first = accepted-is p line why f in
+        breaks body p first.0 has tree.0 tree.1 first.1 first.2
+    go (Err e) is f =
+        let for : unread e ≡ Refused line why = cc f in
+        no_tree body e has (laws.refuses body.lines body.end e is) for
+
+choice-back : Laws → (text : List ℕ) (s : Settings) (choice : Choice) (line : ℕ) (why : Why) → settings_in text ≡ Ok s → s.protocol ≡ choice → IsOfText choice
+    → protocol_of choice ≡ Err (Refused line why) → IsRefused text line why
+unfolding protocol_of
+choice-back laws text s choices.Default line why is own lines h = absurd (shipped-is laws.stache Stache (Refused line why) h)
+choice-back laws text s (choices.Own l body) line why is own lines h =
+    section-back laws text body line why (record { settings = s; line = l; set = is; own = own }) lines h
+choice-back laws text s (choices.Shipped l which) line why is own lines h = absurd (shipped-is laws.stache which (Refused line why) h)
+
+kind-back : Laws → (text : List ℕ) (line : ℕ) (why : Why) → input_of text ≡ Err (Refused line why) → IsRefused text line why
+kind-back laws text line why h = go (settings_in text) refl (sym (input-is text) ∙ h)
+  where
+    go : (r : Result Settings InputError) → settings_in text ≡ r → set_up r ≡ Err (Refused line why) → IsRefused text line why
+    go (Ok s) is f =
+        choice-back laws text s s.protocol line why is refl (settings-of-text laws.text_lines laws.layout text s is)
+        (joined-err s (protocol_of s.protocol) (Refused line why) f)
+    go (Err e) is f =
+        let same : e ≡ Refused line why = cc f in
+        early ((laws.early text line why).0 (is ∙ ap Err same))
+
+-- ---- a refusal of a kind is found
+
+set-on : (text : List ℕ) (s : Settings) (r : Result Protocol InputError) → settings_in text ≡ Ok s → protocol_of s.protocol ≡ r → input_of text ≡ joined s r
+set-on text s r is own = input-is text ∙ ap set_up is ∙ ap (joined s) own
+
+section-on : (text : List ℕ) (body : Body) (r : Result Protocol InputError) (e : InputError) → HasSection text body → section_protocol body ≡ r → r ≡ Err e → input_of text ≡ Err e
+unfolding protocol_of
+section-on text body r e has is h =
+    set-on text has.settings (section_protocol body) has.set (ap protocol_of has.own) ∙ ap (joined has.settings) (is ∙ h)
+
+tree-on : Laws → (body : Body) (e : ParseError) → Refuses body.lines body.end e → section_protocol body ≡ Err (unread e)
+unfolding section_protocol
+tree-on laws body e refuses = ap (λ r. in_protocol r >>= λ p. accepted p) (laws.refused body.lines body.end e refuses)
+
+break-on : Laws → (body : Body) (p : Protocol) (line : ℕ) (rule : Rule) → IsTree p → IsGiven body.lines p → IsFirstBreak p line rule
+    → section_protocol body ≡ Err (Refused line (broken_rule rule))
+unfolding section_protocol accepted
+break-on laws body p line rule tree given first =
+    ap (λ r. in_protocol r >>= λ p. accepted p) (laws.read body.lines p body.end tree given)
+    ∙ ap (λ f. unless_broken f p) (first_broken p line rule tree first)
+
+kind-on : Laws → (text : List ℕ) (line : ℕ) (why : Why) → IsRefused text line why → input_of text ≡ Err (Refused line why)
+kind-on laws text line why (early h) = input-is text ∙ ap set_up ((laws.early text line why).1 h)
+kind-on laws text line why (no_tree body e has refuses for) = section-on text body (Err (unread e)) (Refused line why) has (tree-on laws body e refuses) (ap Err for)
+kind-on laws text line why (breaks body p rule has tree given first for) =
+    section-on text body (Err (Refused line (broken_rule rule))) (Refused line why) has (break-on laws body p line rule tree given first) (ap (λ w. Err (Refused line w)) (sym for))
+
+pub kinds : Laws → RefusalIsOfAKind
+kinds laws text line why = (kind-back laws text line why, kind-on laws text line why)
+
+-- ---- want of memory is no property of a text
+
+unread-memory : (lines : List Line) (after : ℕ) (e : ParseError) → Refuses lines after e → unread e ≡ Memory → ⊥
+unread-memory lines after (teapot.BadLine n) r h = absurd (cc h)
+unread-memory lines after (teapot.BadNest n) r h = absurd (cc h)
+unread-memory lines after (teapot.TooMany what n) r h = absurd (cc h)
+unread-memory lines after teapot.Memory r h = r
+
+broken-memory : (p : Protocol) (f : Option Fault) → unless_broken f p ≡ Err Memory → ⊥
+broken-memory p None h = absurd (cc h)
+broken-memory p (Some f) h = absurd (cc h)
+
+section-memory : Laws → (body : Body) → section_protocol body ≡ Err Memory → ⊥
+unfolding section_protocol accepted
+section-memory laws body h = go (parsed body.lines body.end) refl h
+  where
+    go : (r : Result Protocol ParseError) → parsed body.lines body.end ≡ r → (in_protocol r >>= λ p. accepted p) ≡ Err Memory → ⊥
+    go (Ok p) is f = broken-memory p (first_of_rules p all_rules) f
+    go (Err e) is f = let for : unread e ≡ Memory = cc f in unread-memory body.lines body.end e (laws.refuses body.lines body.end e is) for
+
+choice-memory : Laws → (choice : Choice) → protocol_of choice ≡ Err Memory → ⊥
+unfolding protocol_of
+choice-memory laws choices.Default h = shipped-is laws.stache Stache Memory h
+choice-memory laws (choices.Own l body) h = section-memory laws body h
+choice-memory laws (choices.Shipped l which) h = shipped-is laws.stache which Memory h
+
+pub no-memory : Laws → TextIsNoMemory
+no-memory laws text h = go (settings_in text) refl (sym (input-is text) ∙ h)
+  where
+    go : (r : Result Settings InputError) → settings_in text ≡ r → set_up r ≡ Err Memory → ⊥
+    go (Ok s) is f = choice-memory laws s.protocol (joined-err s (protocol_of s.protocol) Memory f)
+    go (Err e) is f = let same : e ≡ Memory = cc f in laws.no_memory text (is ∙ ap Err same)
+
+-- ---- one of the two, and one refusal
+
+pub valid_or_refused : Laws → TextIsValidOrRefused
+valid_or_refused laws text = go (input_of text) refl
+  where
+    go : (r : Result Setup InputError) → input_of text ≡ r → ((s : Setup) × (input_of text ≡ Ok s)) ⊎ ((line : ℕ) × (why : Why) × IsRefused text line why)
+    go (Ok s) is = inl (s, is)
+    go (Err (Refused line why)) is = inr (line, why, kind-back laws text line why is)
+    go (Err Memory) is = absurd (no-memory laws text is)
+
+pub never_both : Laws → TextIsNeverBoth
+never_both laws text s line why is refused = let other = kind-on laws text line why refused in absurd (cc (is, other))
+
+pub one_refusal : Laws → RefusalIsOne
+one_refusal laws text line other why reason a b =
+    let x = kind-on laws text line why a in
+    let y = kind-on laws text other reason b in
+    let same : ◌≡◌ {A = Result Setup InputError} (Err (Refused line why)) (Err (Refused other reason)) = sym x ∙ y in
+    (cc same, cc same)

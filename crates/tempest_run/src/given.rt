@@ -1,0 +1,61 @@
+ghost use Rattle.std.specs.Prelude.{◌≡◌, map};
+ghost use Rattle.std.specs.String.{string_bytes};
+ghost use Rattle.tempest_words.specs.Words.{asked};
+ghost use Rattle.tempest_run.specs.Calls.{Gives, reads_input, told};
+
+use std::alloc::Global;
+use tempest_words::{Asked, Command, asked};
+use tw_base::Listed;
+use tw_io::{ReadError, Source, read_all};
+
+/// How many bytes an input may have.
+const MAX_INPUT: u32 = 1_048_576;
+
+/// What the words and the source gave.
+#[derive(Debug, Drop)]
+pub enum Given {
+    /// The words are no command.
+    NoCommand,
+    /// The input has more bytes than it may have.
+    TooLong,
+    /// What the words ask for, and its input.
+    Text(Asked, Listed<u8>),
+}
+
+/// Why an input was not got.
+#[derive(Clone, Copy, Debug, PartialEq, Eq)]
+pub enum Stopped {
+    ReadFault,
+    Memory,
+}
+
+/// Whether a command reads an input.
+fn reads_input(command: Command) -> bool
+    ensures { result ≡ reads_input command }
+{
+    match command {
+        Command::Check | Command::Code | Command::Show | Command::Serial(_) => true,
+    }
+}
+
+/// Reads the input of what the words ask for, if they ask for something.
+pub fn read_given<S: Source>(
+    alloc: Global,
+    words: &[String],
+    source: &mut S,
+) -> Result<Given, Stopped>
+    ensures { Gives (asked (map string_bytes words.now)) (told (S.left source.old) (S.faults source.old)) (told (S.left source.new) (S.faults source.new)) result }
+{
+    let Some(asked) = asked(words) else {
+        return Ok(Given::NoCommand);
+    };
+    if !reads_input(asked.command) {
+        return Ok(Given::Text(asked, Listed::new(alloc)));
+    }
+    match read_all(alloc, source, MAX_INPUT) {
+        Ok(text) => Ok(Given::Text(asked, Listed::of(text))),
+        Err(ReadError::TooLong) => Ok(Given::TooLong),
+        Err(ReadError::Fault) => Err(Stopped::ReadFault),
+        Err(ReadError::Memory) => Err(Stopped::Memory),
+    }
+}
