@@ -1,0 +1,49 @@
+ghost use Rattle.std.specs.Prelude.{◌≡◌, ◌↔◌, IsTrue};
+ghost use Rattle.stache_check.specs.Words.{atom_expr, term_expr};
+
+use crate::Word;
+use teapot_tree::{Expr, Op};
+
+#[derive(Clone, Copy)]
+pub enum Atom {
+    Number(u32),
+    Empty,
+    Src,
+    Home,
+    Var(Word),
+}
+
+#[derive(Clone, Copy)]
+pub enum Term {
+    Atom(Atom),
+    One(Atom),
+    Count(Atom),
+    Two(Op, Atom, Atom),
+}
+
+pub fn is_atom(e: &Expr, atom: Atom) -> bool
+    ensures { IsTrue result ↔ (e.now ≡ atom_expr atom) }
+{
+    match (e, atom) {
+        (Expr::Number(n), Atom::Number(m)) => *n == m,
+        (Expr::Empty, Atom::Empty) => true,
+        (Expr::Src, Atom::Src) => true,
+        (Expr::Home, Atom::Home) => true,
+        (Expr::Var(name), Atom::Var(word)) => word.is(name),
+        _ => false,
+    }
+}
+
+pub fn is_term(e: &Expr, term: Term) -> bool
+    ensures { IsTrue result ↔ (e.now ≡ term_expr term) }
+{
+    match (e, term) {
+        (e, Term::Atom(atom)) => is_atom(e, atom),
+        (Expr::One(a), Term::One(x)) => is_atom(a.get(), x),
+        (Expr::Count(a), Term::Count(x)) => is_atom(a.get(), x),
+        (Expr::Two(op, a, b), Term::Two(other, x, y)) => {
+            *op == other && is_atom(a.get(), x) && is_atom(b.get(), y)
+        }
+        _ => false,
+    }
+}
