@@ -14,19 +14,19 @@ use Rattle.teapot_meaning.specs.declared.state.Ended.{Ended}
 use Rattle.teapot_meaning.specs.declared.state.Here.{Here}
 use Rattle.teapot_meaning.specs.declared.state.StateVal.{StateVal, StateVal-F, out-roll-StateVal, roll-StateVal}
 use Rattle.block_tags.specs.Copies.{Copies, IsWhole}
+use Rattle.cont_store.specs.declared.record.Record.{Record}
 use Rattle.cont_store.specs.declared.record.RecordKey.{RecordKey}
 use Rattle.cont_store.specs.Store.{Store}
 use Rattle.handler_code.specs.declared.code.Code.{Code}
 use Rattle.handler_code.specs.Machine.{state_arity}
 use Rattle.handler_vm.specs.declared.cell.Cell.{Cell}
-use Rattle.handler_vm.specs.Chains.{IsChain, ends, saved_from}
+use Rattle.handler_vm.specs.Chains.{IsChain, ends, records_of, saved_from, saved_of}
 use Rattle.handler_vm.specs.Leaves.{kept_of}
 use Rattle.compiled_meaning.specs.Stands.{ChainStands, StateStands, none}
 use Rattle.compiled_meaning.specs.Whole.{CellStands}
 use Rattle.compiled_handlers.specs.Standing.{BlockStands, Keeping}
 use Rattle.compiled_handlers.proofs.Writing.{words_full}
 use Rattle.compiled_handlers_tests.specs.Alike.{Alike, IsPlain}
-use Rattle.compiled_handlers_tests.specs.Resaved.{Resaved}
 
 pub some_state : (p : Protocol) (here : Here) → Fits p here → IsSome (state_of p here)
 unfolding fits_below
@@ -73,15 +73,15 @@ started {p} {q} {code} {cell} {blocks} {other} {conts} {here} e f fits stands wi
     let there : Alike q code (record { cell = cell; blocks = blocks; conts = conts }) here = record { fits = fits; stands = stands; within = within } in
     subst (λ b. Alike p code (record { cell = cell; blocks = b; conts = conts }) here) (sym f) (subst (λ z. Alike z code (record { cell = cell; blocks = blocks; conts = conts }) here) e there)
 
--- ---- the records under other keys
+-- ---- the same records in another store
 
-pub stands_again : (p : Protocol) (code : Code) (kept : Keeping) (here : Here) (conts : Store) (cont : Option RecordKey) → BlockStands p code kept here
-    → Resaved kept.blocks.shape.words kept.conts conts kept.cell.cont cont → BlockStands p code (record { cell = record kept.cell { cont = cont }; blocks = kept.blocks; conts = conts }) here
-stands_again p code kept here conts cont stands again = record {
+pub stands_again : (p : Protocol) (code : Code) (kept : Keeping) (here : Here) (conts : Store) → BlockStands p code kept here → IsChain kept.blocks.shape.words conts kept.cell.cont
+    → records_of conts kept.cell.cont ≡ records_of kept.conts kept.cell.cont → BlockStands p code (record { cell = kept.cell; blocks = kept.blocks; conts = conts }) here
+stands_again p code kept here conts stands chain same = record {
   tag = stands.tag;
   words = stands.words;
-  chain = again.chain;
-  cell = subst (λ chain. CellStands p code (kept_of p kept.cell) chain here) (sym (again.saved p)) stands.cell;
+  chain = chain;
+  cell = subst (λ (rs : List Record). CellStands p code (kept_of p kept.cell) (map (saved_of p) rs) here) (sym same) stands.cell;
 }
 
 -- ---- after a message

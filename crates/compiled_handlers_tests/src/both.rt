@@ -7,8 +7,7 @@ ghost use Rattle.teapot_meaning.specs.Fits.{Fits, IsMessageOf, type_of, types_of
 ghost use Rattle.teapot_meaning.specs.declared.state.Ended.{Ended};
 ghost use Rattle.cont_store.specs.Store.{Store};
 ghost use Rattle.handler_code.specs.declared.code.Code.{Code};
-ghost use Rattle.handler_vm.specs.Chains.{IsChain, IsFull};
-ghost use Rattle.handler_vm.specs.Sending.{IsReady};
+ghost use Rattle.handler_vm.specs.Chains.{IsChain};
 ghost use Rattle.compiled_meaning.specs.Whole.{IsCode};
 ghost use Rattle.compiled_handlers.specs.Standing.{BlockStands};
 ghost use Rattle.compiled_handlers_tests.specs.Alike.{Alike, EndsAlike, IsPlain};
@@ -164,7 +163,7 @@ pub fn first(
 
 // Room for what a message may send and save.
 fn ready(both: &mut Both) -> Result<(), Memory>
-    ensures room { OnOk result ((1 ≤ both.new.conts.spare) × IsReady both.new.around) }
+    ensures room { OnOk result (1 ≤ both.new.conts.spare) }
     ensures same { both.new ≡ record both.old { conts = both.new.conts; around = both.new.around } }
     ensures alike { (p : Protocol) (code : Code) → Alike p code (record { cell = both.old.cell; blocks = both.old.blocks; conts = both.old.conts }) both.old.here → Alike p code (record { cell = both.new.cell; blocks = both.new.blocks; conts = both.new.conts }) both.new.here }
 {
@@ -179,9 +178,7 @@ fn run_code(code: &Code, p: &Checked, both: &mut Both, m: &Message) -> Ran
     requires alike { Alike p.now code.now (record { cell = both.old.cell; blocks = both.old.blocks; conts = both.old.conts }) both.old.here }
     requires block { m.now.block ≡ both.old.here.block }
     requires message { IsMessageOf p.now both.old.blocks.shape.words m.now }
-    requires full { IsFull both.old.blocks.shape.words m.now.payload }
     requires spare { 1 ≤ both.old.conts.spare }
-    requires ready { IsReady both.old.around }
     ensures same { both.new.here ≡ both.old.here }
     ensures alike { (e : Ended) → Does p.now both.old.here m.now e → EndsAlike p.now code.now (record { cell = both.new.cell; blocks = both.new.blocks; conts = both.new.conts }) both.new.here.block e }
 {
@@ -252,14 +249,9 @@ pub fn go_on(code: &Code, both: &mut Both, end: Ended) -> Result<(), Fail>
     if here.me != both.here.me || here.home != both.here.home || here.block != both.here.block {
         return Err(Fail::new("another block"));
     }
-    both.cell.cont = same_chain(
-        code,
-        &mut both.conts,
-        both.cell.cont,
-        &here.state,
-        both.blocks.shape().words(),
-        9,
-    )?;
+    if !same_chain(code, &both.conts, both.cell.cont, &here.state, 9) {
+        return Err(Fail::new("records that differ"));
+    }
     both.here = here;
     Ok(())
 }

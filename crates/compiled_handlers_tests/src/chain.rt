@@ -1,13 +1,11 @@
 //! The records of a block's suspensions beside the continuations of the interpreter.
 
-ghost use Rattle.std.specs.Prelude.{IfOk, Some};
-ghost use Rattle.handler_vm.specs.Chains.{IsChain};
-ghost use Rattle.compiled_handlers_tests.specs.Resaved.{Resaved};
+ghost use Rattle.std.specs.Prelude.{Some};
+ghost use Rattle.compiled_handlers_tests.specs.Named.{IsNamed};
 
 use crate::parts::hold;
 use cont_store::{Conts, Record, RecordKey};
 use handler_code::{Code, Rest};
-use std::test::Fail;
 use teapot_meaning::{Bound, Cont, StateVal};
 use tw_base::Value;
 
@@ -56,48 +54,31 @@ fn same_record(code: &Code, record: &Record, cont: &Cont) -> bool {
         && record.depth == depth(saved, 9).saturating_add(1)
 }
 
-/// Takes the records from a key on, compares each with its continuation, and saves them again under keys of which the
-/// newest's is answered.
-#[cycle(resaved)]
+/// Whether the records from a key on are those of the interpreter's continuations, the newest first, at most so many.
+#[cycle(compared)]
 pub fn same_chain(
     code: &Code,
-    conts: &mut Conts,
+    conts: &Conts,
     key: Option<RecordKey>,
     state: &StateVal,
-    words: u8,
     most: u8,
-) -> Result<Option<RecordKey>, Fail>
-    requires { IsChain words conts.old key }
-    ensures { IfOk result (λ now. Resaved words conts.old conts.new key now) }
+) -> bool
+    requires { IsNamed conts.now key }
 {
     match key {
-        None if state.cont.is_none() => Ok(None),
-        Some(key) if most > 0 => same_newest(code, conts, key, state, words, most - 1),
-        _ => Err(Fail::new("chains of different lengths")),
+        None => state.cont.is_none(),
+        Some(key) => most > 0 && same_newest(code, conts, key, state, most - 1),
     }
 }
 
-#[cycle(resaved)]
-fn same_newest(
-    code: &Code,
-    conts: &mut Conts,
-    key: RecordKey,
-    state: &StateVal,
-    words: u8,
-    most: u8,
-) -> Result<Option<RecordKey>, Fail>
-    requires { IsChain words conts.old (Some key) }
-    ensures { IfOk result (λ now. Resaved words conts.old conts.new (Some key) now) }
+#[cycle(compared)]
+fn same_newest(code: &Code, conts: &Conts, key: RecordKey, state: &StateVal, most: u8) -> bool
+    requires { IsNamed conts.now (Some key) }
 {
     let Some(cont) = &state.cont else {
-        return Err(Fail::new("chains of different lengths"));
+        return false;
     };
-    let mut saved = conts.take(key);
-    if !same_record(code, &saved, cont.get()) {
-        return Err(Fail::new("a record that differs"));
-    }
+    let saved = conts.get(key);
     let older = cont.get().saved.get();
-    saved.parent = same_chain(code, conts, saved.parent, older, words, most)?;
-    conts.reserve()?;
-    Ok(Some(conts.save(saved)))
+    same_record(code, &saved, cont.get()) && same_chain(code, conts, saved.parent, older, most)
 }

@@ -1,9 +1,8 @@
 //! Messages of a protocol that a linear congruence picks.
 
-ghost use Rattle.std.specs.Prelude.{◌≡◌, ◌-◌, ◌<◌, ◌≤◌, drop, length, map, replicate, take, true};
+ghost use Rattle.std.specs.Prelude.{◌≡◌, ◌-◌, ◌<◌, ◌≤◌, None, drop, false, length, map, replicate, take, true};
 ghost use Rattle.tw_base.specs.declared.value.Value.TheVariants.{Int};
 ghost use Rattle.teapot_meaning.specs.Fits.{HasWords, IsMessageOf, type_of};
-ghost use Rattle.handler_vm.specs.Chains.{IsFull};
 
 use std::test::Fail;
 use teapot_tree::{MessageDecl, Protocol, ValType};
@@ -202,13 +201,13 @@ fn type_of(value: Value) -> ValType
     }
 }
 
-// Whether the data, if there are any, are of this many words, and are there if a message carries them.
+// Whether the data are of this many words and there exactly if a message carries them.
 fn is_carried(carries: bool, payload: &Option<Data>, words: u8) -> bool
-    ensures full { result ≡ true → IsFull words payload.now }
     ensures there { result ≡ true → carries ≡ true → HasWords words payload.now }
+    ensures plain { result ≡ true → carries ≡ false → payload.now ≡ None }
 {
     match payload {
-        Some(data) => data.len == words,
+        Some(data) => carries && data.len == words,
         None => !carries,
     }
 }
@@ -216,31 +215,30 @@ fn is_carried(carries: bool, payload: &Option<Data>, words: u8) -> bool
 // Whether this is a message of this declaration.
 fn is_of(decl: &MessageDecl, words: u8, m: &Message) -> bool
     ensures types { result ≡ true → map type_of (take m.now.arg_count m.now.args) ≡ decl.now.args }
-    ensures full { result ≡ true → IsFull words m.now.payload }
     ensures there { result ≡ true → decl.now.carries ≡ true → HasWords words m.now.payload }
+    ensures plain { result ≡ true → decl.now.carries ≡ false → m.now.payload ≡ None }
 {
     let args = &m.args[..usize::from(m.arg_count)];
     have_types(args, decl.args.items()) && is_carried(decl.carries, &m.payload, words)
 }
 
 // Whether this is a fault.
-fn is_fault(words: u8, m: &Message) -> bool
+fn is_fault(m: &Message) -> bool
     ensures args { result ≡ true → m.now.arg_count ≡ 0 }
-    ensures full { result ≡ true → IsFull words m.now.payload }
+    ensures plain { result ≡ true → m.now.payload ≡ None }
 {
-    m.arg_count == 0 && is_carried(false, &m.payload, words)
+    m.arg_count == 0 && m.payload.is_none()
 }
 
 /// Whether this is a fault or a message of the protocol, for blocks of this many words.
 pub fn is_message(p: &Protocol, words: u8, m: &Message) -> bool
-    ensures of { result ≡ true → IsMessageOf p.now words m.now }
-    ensures full { result ≡ true → IsFull words m.now.payload }
+    ensures { result ≡ true → IsMessageOf p.now words m.now }
 {
     match m.kind {
         Kind::Named(number) => match p.messages.get(usize::from(number)) {
             Some(decl) => is_of(decl, words, m),
             None => false,
         },
-        _ => is_fault(words, m),
+        _ => is_fault(m),
     }
 }

@@ -2,9 +2,9 @@ ghost use Rattle.std.specs.Prelude.{◌^◌, ◌<◌, IfOk, length};
 ghost use Rattle.compiled_meaning.specs.Whole.{IsCode};
 
 use handler_code::Code;
-use suspend_split::split;
 use std::alloc::Global;
 use std::test::Fail;
+use suspend_split::split;
 use teapot_check::check;
 use teapot_parse::{parse, read_trees_are_given, texts_have_text_lines};
 use teapot_tree::Checked;

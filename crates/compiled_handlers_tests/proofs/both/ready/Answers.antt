@@ -9,6 +9,6 @@ returns-clause-alike c = λ p code a.
     let same = same_chain _ _ _ _ (λ k. ap (λ s. record_at s k) c.reserve.ensures.records) a.stands.chain in
     record {
       fits = a.fits;
-      stands = stands_again _ _ _ _ _ _ a.stands same;
+      stands = stands_again _ _ _ _ _ a.stands same.0 same.1;
       within = a.within;
     }

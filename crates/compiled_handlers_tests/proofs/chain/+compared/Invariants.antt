@@ -1,5 +1,5 @@
 use Rattle.std.proofs.Common.{◌+◌, ◌*◌}
-use Rattle.compiled_handlers_tests.proofs.chain.+resaved.Given as goal
+use Rattle.compiled_handlers_tests.proofs.chain.+compared.Given as goal
 
 abbrev pub decreases-same_chain : goal.decreases-same_chain
 decreases-same_chain l = 2 * l.most
