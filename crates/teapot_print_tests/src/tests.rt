@@ -25,18 +25,6 @@ fn reprinted(alloc: Global, text: &[u8]) -> Result<Vec<u8>, Fail> {
     Ok(print(alloc, &protocol)?)
 }
 
-// A first line, and pieces behind it, each so many times.
-fn with_head(alloc: Global, head: &[u8], pieces: &[(usize, &[u8])]) -> Result<Vec<u8>, Fail> {
-    let mut text = Vec::new(alloc);
-    text.extend_from_slice(head)?;
-    for (times, piece) in pieces {
-        for _ in 0..*times {
-            text.extend_from_slice(piece)?;
-        }
-    }
-    Ok(text)
-}
-
 // The text with blanks, comments and blank lines wherever they may stand, and lines that end as elsewhere.
 fn disordered(alloc: Global, text: &[u8]) -> Result<Vec<u8>, Fail> {
     let mut out = Vec::new(alloc);
@@ -69,43 +57,61 @@ fn protocols_are_printed_as_they_stand(rt: HostRuntime) -> Result<(), Fail> {
     Ok(())
 }
 
-// The text of a protocol whose one handler has these statements, at their indent.
-fn with_statements(alloc: Global, head: &[u8], statements: &[u8]) -> Result<Vec<u8>, Fail> {
-    with_head(
-        alloc,
-        head,
-        &[
-            (1, b"State S{}\nBegin\n  On M()\n  Begin\n    ".as_slice()),
-            (1, statements),
-            (1, b"\n  End\nEnd\n".as_slice()),
-        ],
-    )
+// Adds a piece, in which `/` ends a line.
+fn put(text: &mut Vec<u8>, piece: &str) -> Result<(), Fail> {
+    for byte in piece.as_bytes() {
+        text.push(if *byte == b'/' { b'\n' } else { *byte })?;
+    }
+    Ok(())
 }
+
+// A first line, and a piece between two others.
+fn between(
+    alloc: Global,
+    head: &[u8],
+    before: &str,
+    piece: &str,
+    behind: &str,
+) -> Result<Vec<u8>, Fail> {
+    let mut text = Vec::new(alloc);
+    text.extend_from_slice(head)?;
+    put(&mut text, before)?;
+    put(&mut text, piece)?;
+    put(&mut text, behind)?;
+    Ok(text)
+}
+
+// Whether the first spelling of each row, with these around it, is printed as the second.
+fn are_reprinted(
+    rt: &impl Abort,
+    alloc: Global,
+    head: &[u8],
+    table: &str,
+    before: &str,
+    behind: &str,
+) -> Result<(), Fail> {
+    for row in table.split('\n') {
+        let (text, due) = row.split_once(" -> ").unwrap_or(("", "?"));
+        let text = between(alloc, head, before, text, behind)?;
+        let due = between(alloc, head, before, due, behind)?;
+        assert_eq!(rt; reprinted(alloc, &text)?.as_slice(), due.as_slice());
+    }
+    Ok(())
+}
+
+const BEFORE: &str = "State S{}/Begin/  On M()/  Begin/    ";
+
+const BEHIND: &str = "/  End/End/";
 
 #[test]
 fn lines_are_printed_in_one_spelling(rt: HostRuntime) -> Result<(), Fail> {
     let alloc = rt.alloc();
-    for (text, due) in spellings::TEXTS {
-        assert_eq!(rt; reprinted(alloc, text)?.as_slice(), due);
-    }
+    are_reprinted(&rt, alloc, b"", spellings::TEXTS, "", "")?;
     for head in HEADS {
-        for (text, due) in spellings::DECLARATIONS {
-            let text = with_head(alloc, head, &[(1, text)])?;
-            let due = with_head(alloc, head, &[(1, due)])?;
-            assert_eq!(rt; reprinted(alloc, &text)?.as_slice(), due.as_slice());
-        }
-        for (text, due) in spellings::STATEMENTS {
-            let text = with_statements(alloc, head, text)?;
-            let due = with_statements(alloc, head, due)?;
-            assert_eq!(rt; reprinted(alloc, &text)?.as_slice(), due.as_slice());
-        }
+        are_reprinted(&rt, alloc, head, spellings::DECLARATIONS, "", "")?;
+        are_reprinted(&rt, alloc, head, spellings::STATEMENTS, BEFORE, BEHIND)?;
     }
-    for (text, due) in spellings::LOOPS {
-        let text = with_statements(alloc, HEADS[1], text)?;
-        let due = with_statements(alloc, HEADS[1], due)?;
-        assert_eq!(rt; reprinted(alloc, &text)?.as_slice(), due.as_slice());
-    }
-    Ok(())
+    are_reprinted(&rt, alloc, HEADS[1], spellings::LOOPS, BEFORE, BEHIND)
 }
 
 // What is said of a text: that it is read, or its refusal.
@@ -119,13 +125,6 @@ fn answered(alloc: Global, text: &[u8]) -> Result<String, Fail> {
         }
         Err(ParseError::Memory) => Ok(String::from_str(alloc, "Memory")?),
     }
-}
-
-fn put(text: &mut Vec<u8>, piece: &str) -> Result<(), Fail> {
-    for byte in piece.as_bytes() {
-        text.push(if *byte == b'/' { b'\n' } else { *byte })?;
-    }
-    Ok(())
 }
 
 // The text that a row stands for, behind these lines.
@@ -161,12 +160,11 @@ fn are_no_lines(
     alloc: Global,
     head: &[u8],
     table: &str,
-    before: &[u8],
-    behind: &[u8],
+    before: &str,
+    behind: &str,
 ) -> Result<(), Fail> {
     for line in table.split('\n') {
-        let pieces = [(1, before), (1, line.as_bytes()), (1, behind)];
-        let text = with_head(alloc, head, &pieces)?;
+        let text = between(alloc, head, before, line, behind)?;
         assert_eq!(rt; answered(alloc, &text)?.as_str(), "BadLine 2");
     }
     Ok(())
@@ -177,8 +175,8 @@ fn lines_are_refused(rt: HostRuntime) -> Result<(), Fail> {
     let alloc = rt.alloc();
     are_answered(&rt, alloc, b"", refusals::TEXTS)?;
     for head in HEADS {
-        are_no_lines(&rt, alloc, head, refusals::BAD_LINES, b"", b"")?;
-        are_no_lines(&rt, alloc, head, refusals::RESERVED, b"Info ", b" Int")?;
+        are_no_lines(&rt, alloc, head, refusals::BAD_LINES, "", "")?;
+        are_no_lines(&rt, alloc, head, refusals::RESERVED, "Info ", " Int")?;
     }
     Ok(())
 }
