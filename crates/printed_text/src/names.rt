@@ -3,7 +3,7 @@ ghost use Rattle.teapot_meaning.specs.Names.{error_names};
 ghost use Rattle.tw_base.specs.declared.name.Name.{Name};
 
 use std::alloc::Global;
-use teapot_meaning::{error_names, error_number};
+use teapot_meaning::error_names;
 use teapot_tree::Protocol;
 use tw_base::{Kind, Listed, Memory, Name};
 
@@ -18,7 +18,6 @@ pub struct Names<'a> {
 
 impl<'a> Names<'a> {
     ghost use Rattle.printed_text.specs.Names.{error_name, kind_name, message_name, state_name};
-    ghost use Rattle.teapot_meaning.specs.Names.{error_number};
 
     pub fn new(alloc: Global, protocol: &'a Protocol) -> Result<Self, Memory>
         ensures { IfOk result (λ names. names.protocol.now ≡ protocol.now) }
@@ -62,12 +61,5 @@ impl<'a> Names<'a> {
             Some(name) => name.bytes(),
             None => b"",
         }
-    }
-
-    /// The number of an error's name.
-    pub fn error_number(&self, name: &Name) -> u32
-        ensures { result ≡ error_number self.now.protocol.now name.now }
-    {
-        error_number(self.errors.items(), name.bytes())
     }
 }
