@@ -1,192 +1,144 @@
-//! Runs that are driven event by event, and serial schedules event by event.
+ghost use Rattle.dsm_model.specs.Globals.{setup_of, world_of};
+ghost use Rattle.dsm_runs.specs.Worlds.{IsEnabled};
 
-use crate::reading::setup;
-use crate::shown::{
-    entry_line, event_of, put_all_registers, put_nodes, put_prints, put_words, wire_line, wire_of,
-};
-use crate::{tables, texts};
-use dsm_model::{Global, enabled, settle, step};
+use crate::rows::{event_of, wire_line, wire_of};
+use crate::tables;
+use dsm_model::{Global, Setup, enabled, settle, step};
+use journal::{Options, finals_of, first_break, report, words_of};
+use mini_asm::Flat;
+use printed_text::Names;
+use stache_protocol::stache;
 use std::alloc;
 use std::process::Abort;
 use std::test::Fail;
-use teapot_samples::DEEP;
-use teapot_tree::Protocol;
-use tw_base::{Chan, Entry, Event, NodeId};
+use tempest_input::settings_in;
+use tw_base::{Entry, Event, Listed};
 
-// Whether no delivery to a node is enabled.
-fn takes_nothing(g: &Global, at: NodeId) -> bool {
-    for number in 0..8u8 {
-        let from = NodeId::new(number).unwrap();
-        for chan in [Chan::Zero, Chan::One] {
-            if enabled(g, Event::Deliver { at, from, chan }) {
-                return false;
-            }
-        }
+// What a text sets up, under Stache.
+fn setup(alloc: alloc::Global, text: &str) -> Result<Setup, Fail> {
+    if text.len() > 1000 {
+        return Err(Fail::new("a text that is too long"));
     }
-    true
+    let settings = settings_in(alloc, text.as_bytes())?;
+    let version = settings.version();
+    let (shape, init, programs) = settings.into_parts();
+    Ok(Setup::new(version, shape, init, programs, stache(alloc)?))
 }
 
-fn is_quiet(g: &Global) -> bool {
-    for number in 0..8u8 {
-        let node = NodeId::new(number).unwrap();
-        let acts = enabled(g, Event::Instr(node)) || enabled(g, Event::Redeliver(node));
-        if acts || !takes_nothing(g, node) {
-            return false;
-        }
-    }
-    true
-}
-
-/// What was printed, the words and the registers that are not 0, and how the nodes ended.
-pub fn ending(alloc: alloc::Global, g: &Global, entries: &[Entry]) -> Result<String, Fail> {
-    let mut out = String::new(alloc);
-    put_prints(&mut out, entries)?;
-    put_words(&mut out, g)?;
-    put_all_registers(&mut out, g)?;
-    put_nodes(&mut out, g)?;
-    if !is_quiet(g) {
-        out.push_str("an event is enabled\n")?;
-    }
-    Ok(out)
-}
-
-// Makes an event if it is enabled, and says what it did.
-fn made(alloc: alloc::Global, p: &Protocol, g: &mut Global, e: Event) -> Result<String, Fail> {
-    if !enabled(g, e) {
-        return Ok(String::from_str(alloc, "not enabled")?);
-    }
-    let entry = step(alloc, g, e)?;
+fn push_entry(entries: &mut Listed<Entry>, entry: Entry) -> Result<(), Fail> {
     let _parts = (entry.act, entry.after);
-    entry_line(alloc, p, &entry)
-}
-
-// What an event does, or what is on a wire.
-fn answer(alloc: alloc::Global, p: &Protocol, g: &mut Global, words: &str) -> Result<String, Fail> {
-    if let Some((from, to, chan)) = wire_of(words) {
-        return wire_line(alloc, p, g, from, to, chan);
-    }
-    match event_of(words) {
-        Some(e) => made(alloc, p, g, e),
-        None => Err(Fail::new("a row that names no event")),
-    }
-}
-
-// Whether each event or wire of a table is as stands behind it.
-fn are_made(
-    rt: &impl Abort,
-    alloc: alloc::Global,
-    p: &Protocol,
-    g: &mut Global,
-    table: &str,
-) -> Result<(), Fail> {
-    for row in table.split('\n') {
-        let (words, due) = row.split_once(": ").unwrap_or((row, ""));
-        let got = answer(alloc, p, g, words)?;
-        assert_eq!(rt; got.as_str(), due, "at {words}");
-    }
+    entries.push(entry)?;
     Ok(())
 }
 
+// Makes an event, which is enabled.
+fn make(
+    alloc: alloc::Global,
+    g: &mut Global,
+    e: Event,
+    entries: &mut Listed<Entry>,
+) -> Result<(), Fail>
+    requires { IsEnabled (setup_of g.old) (world_of g.old) e }
+{
+    let entry = step(alloc, g, e)?;
+    let _parts = (entry.act, entry.after);
+    push_entry(entries, entry)
+}
+
+// Makes the event of a row if it is enabled, or tells what is on the wire of a row.
+fn answer(
+    alloc: alloc::Global,
+    names: &Names,
+    g: &mut Global,
+    row: &str,
+    entries: &mut Listed<Entry>,
+) -> Result<String, Fail> {
+    if let Some((from, to, chan)) = wire_of(row) {
+        return wire_line(alloc, names, g, from, to, chan);
+    }
+    let e = event_of(row).ok_or("a row that names no event")?;
+    if !enabled(g, e) {
+        return Ok(String::from_str(alloc, "not enabled")?);
+    }
+    make(alloc, g, e, entries)?;
+    Ok(String::from_str(alloc, "made")?)
+}
+
+// Answers each row, and gives the entries of the events.
+fn answered(
+    rt: &impl Abort,
+    alloc: alloc::Global,
+    g: &mut Global,
+    rows: &str,
+) -> Result<Listed<Entry>, Fail> {
+    let names = Names::new(alloc, g.setup().protocol().protocol())?;
+    let mut entries = Listed::new(alloc);
+    for row in rows.split('\n') {
+        let (asked, due) = row.split_once(": ").unwrap_or((row, "made"));
+        let got = answer(alloc, &names, g, asked, &mut entries)?;
+        assert_eq!(rt; got.as_str(), due, "at {asked}");
+    }
+    Ok(entries)
+}
+
+// The report of a run, with its events.
+fn told(alloc: alloc::Global, g: &Global, entries: &[Entry]) -> Result<Vec<u8>, Fail> {
+    if entries.len() > 1000 {
+        return Err(Fail::new("too many entries"));
+    }
+    let setup = g.setup();
+    let mut flat = Flat::new(alloc, setup.shape(), setup.init(), setup.programs())?;
+    let broken = first_break(&mut flat, entries);
+    let (finals, words) = (finals_of(alloc, g)?, words_of(alloc, g)?);
+    let options = Options {
+        journal: true,
+        counts: false,
+    };
+    let (finals, words) = (finals.items(), words.items());
+    Ok(report(alloc, setup, entries, finals, words, broken, options)?)
+}
+
+// The rows are answered as they say, no event is enabled after them, and the report is the one that is due.
 fn is_driven(
     rt: &impl Abort,
     alloc: alloc::Global,
     text: &str,
-    table: &str,
+    rows: &str,
     due: &str,
 ) -> Result<(), Fail> {
     let setup = setup(alloc, text)?;
     let mut g = Global::new(alloc, &setup)?;
-    are_made(rt, alloc, setup.protocol().protocol(), &mut g, table)?;
-    assert_eq!(rt; ending(alloc, &g, &[])?.as_str(), due);
+    let entries = answered(rt, alloc, &mut g, rows)?;
+    assert_eq!(rt; settle(alloc, &mut g, 0)?.len(), 0);
+    assert_eq!(rt;
+        told(alloc, &g, entries.items())?.as_slice(),
+        due.as_bytes()
+    );
     Ok(())
 }
 
 #[test]
 fn events_are_made(rt: HostRuntime) -> Result<(), Fail> {
     let alloc = rt.alloc();
-    is_driven(
-        &rt,
-        alloc,
-        texts::WRITERS,
-        tables::WRITERS,
-        tables::WRITERS_END,
-    )?;
-    is_driven(
-        &rt,
-        alloc,
-        texts::DEFERRED,
-        tables::DEFERRED,
-        tables::DEFERRED_END,
-    )?;
-    is_driven(
-        &rt,
-        alloc,
-        texts::LAPSED,
-        tables::LAPSED,
-        tables::LAPSED_END,
-    )?;
-    is_driven(
-        &rt,
-        alloc,
-        texts::TWO_RESTS,
-        tables::TWO_RESTS,
-        tables::TWO_RESTS_END,
-    )
-}
-
-// Whether the serial schedule of stride 0 makes these entries, and no more.
-fn is_scheduled(
-    rt: &impl Abort,
-    alloc: alloc::Global,
-    text: &str,
-    table: &str,
-    due: &str,
-) -> Result<(), Fail> {
-    let setup = setup(alloc, text)?;
-    let mut g = Global::new(alloc, &setup)?;
-    let entries = settle(alloc, &mut g, 0)?;
-    for (k, row) in table.split('\n').enumerate() {
-        let Some(entry) = entries.get(k) else {
-            return Err(Fail::new("an entry is missing"));
-        };
-        let got = entry_line(alloc, setup.protocol().protocol(), entry)?;
-        assert_eq!(rt; got.as_str(), row, "entry {k}");
+    for (text, rows, due) in [
+        (
+            tables::WRITERS,
+            tables::WRITERS_EVENTS,
+            tables::WRITERS_REPORT,
+        ),
+        (
+            tables::DEFERRED,
+            tables::DEFERRED_EVENTS,
+            tables::DEFERRED_REPORT,
+        ),
+        (tables::LAPSED, tables::LAPSED_EVENTS, tables::LAPSED_REPORT),
+        (
+            tables::TWO_RESTS,
+            tables::TWO_RESTS_EVENTS,
+            tables::TWO_RESTS_REPORT,
+        ),
+    ] {
+        is_driven(&rt, alloc, text, rows, due)?;
     }
-    assert_eq!(rt; entries.len(), table.split('\n').count());
-    assert_eq!(rt; ending(alloc, &g, entries.items())?.as_str(), due);
     Ok(())
-}
-
-#[test]
-fn schedules_are_made(rt: HostRuntime) -> Result<(), Fail> {
-    let alloc = rt.alloc();
-    is_scheduled(
-        &rt,
-        alloc,
-        texts::BOTH_WRITE,
-        tables::BOTH_WRITE,
-        tables::BOTH_WRITE_END,
-    )?;
-    is_scheduled(
-        &rt,
-        alloc,
-        texts::TAKEN_BACK,
-        tables::TAKEN_BACK,
-        tables::TAKEN_BACK_END,
-    )?;
-    is_scheduled(
-        &rt,
-        alloc,
-        texts::ADDERS,
-        tables::ADDERS,
-        tables::ADDERS_END,
-    )?;
-    let deep = format!(in alloc; "{}protocol\n{DEEP}end\n", texts::TOO_DEEP)?;
-    is_scheduled(
-        &rt,
-        alloc,
-        deep.as_str(),
-        tables::TOO_DEEP,
-        tables::TOO_DEEP_END,
-    )
 }

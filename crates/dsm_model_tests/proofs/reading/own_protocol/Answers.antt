@@ -1,4 +1,0 @@
-use Rattle.dsm_model_tests.proofs.reading.own_protocol.Goals as goal
-
-pub check-requires : goal.check-requires
-check-requires c = (c.read_trees_are_given.ensures _ _ _ (rw c.items.ensures (c.texts_have_text_lines.ensures _ _ c.in_ok-found.ensures)) c.in_ok-protocol.ensures).0
