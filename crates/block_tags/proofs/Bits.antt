@@ -2,7 +2,7 @@
 use Rattle.std.proofs.Common.{◌≡◌, ◌≢◌, ℕ, ◌-◌, ◌*◌, ◌%◌, ◌^◌, ◌<◌, true, false, eqb, ap, bit_and, bit_or}
 use Rattle.std.proofs.lemmas.Nat.Bits.{bit_at_set_same, bit_at_set_other, bit_at_clear_same, bit_at_clear_other}
 use Rattle.std.specs.Int.{w64}
-use Rattle.block_tags.specs.Packed.{has_bit}
+use Rattle.tw_base.specs.Bits.{has_bit}
 
 pub set_here : (n k : ℕ) → k < 64 → has_bit (bit_or n (1 * 2 ^ k % 18446744073709551616)) k ≡ true
 set_here n k h = ap (λ b. eqb b 1) (bit_at_set_same w64 n k h)

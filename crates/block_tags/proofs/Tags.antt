@@ -6,7 +6,8 @@ use Rattle.std.proofs.lemmas.List.{get_or-set_same, get_or-set_other}
 use Rattle.std.proofs.lemmas.List.FromFn.{fill_by_all, get_or-map-range_with_len, length-map-range_with_len}
 use Rattle.tw_base.specs.declared.value.Tag.{Tag}
 use Rattle.tw_base.specs.declared.value.Tag.TheVariants.{Invalid}
-use Rattle.block_tags.specs.Packed.{has_bit, tag_by, tag_in, tags_in}
+use Rattle.tw_base.specs.Bits.{has_bit}
+use Rattle.block_tags.specs.Packed.{tag_by, tag_in, tags_in}
 
 pub tag_at : (r w k : ℕ) → k < 64 → get_or (tags_in r w) k Invalid ≡ tag_by (has_bit r k) (has_bit w k)
 unfolding tag_in

@@ -1,12 +1,9 @@
 -- A tag by two bits: whether its block may be read, and whether it may be written.
-use Rattle.std.specs.Prelude.{ℕ, ◌==◌, Bool, true, false, List, map}
+use Rattle.std.specs.Prelude.{ℕ, Bool, true, false, List, map}
 use Rattle.std.specs.List.{range_with_len}
-use Rattle.std.specs.Int.{bit_at}
+use Rattle.tw_base.specs.Bits.{has_bit}
 use Rattle.tw_base.specs.declared.value.Tag.{Tag}
 use Rattle.tw_base.specs.declared.value.Tag.TheVariants.{Invalid, ReadOnly, ReadWrite}
-
-abbrev pub has_bit : ℕ → ℕ → Bool
-has_bit bits k = bit_at bits k == 1
 
 abbrev pub tag_by : Bool → Bool → Tag
 tag_by false b = Invalid

@@ -1,6 +1,7 @@
 ghost use Rattle.std.specs.Prelude.{◌≡◌, ℕ, ◌<◌, ◌≢◌, replicate, slice_set};
 ghost use Rattle.std.specs.List.{slice_index_or};
-ghost use Rattle.block_tags.specs.Packed.{has_bit, tag_by};
+ghost use Rattle.block_tags.specs.Packed.{tag_by};
+ghost use Rattle.tw_base.specs.Bits.{has_bit};
 
 use std::marker::Model;
 use tw_base::Tag;

@@ -9,9 +9,9 @@ ghost use Rattle.teapot_rules.specs.Lists.{least, again};
 
 use std::alloc::Global;
 use std::collections::BTreeMap;
-use teapot_rules::{lesser, line_if};
+use teapot_rules::line_if;
 use teapot_tree::{Handler, MessageDecl, Param, Start, State, Trigger};
-use tw_base::{Memory, Name};
+use tw_base::{Memory, Name, lesser};
 
 /// What is declared at a line, under a mark that is to stand once.
 pub trait Declared {

@@ -14,11 +14,11 @@ use crate::handlers::scopes_in;
 use crate::walk::walk;
 use std::alloc::Global;
 use teapot_rules::{
-    Fault, Scope, answers_undeclared, clashing_conts, counts_wrongly, lesser, line_if, most,
-    sooner, undeclared_starts, visible_names, without_default, wrong_starts,
+    Fault, Scope, answers_undeclared, clashing_conts, counts_wrongly, line_if, most, sooner,
+    undeclared_starts, visible_names, without_default, wrong_starts,
 };
 use teapot_tree::{Checked, Protocol, Rule, State};
-use tw_base::Memory;
+use tw_base::{Memory, lesser};
 
 /// Why a protocol is not accepted.
 #[derive(Clone, Copy, Debug, PartialEq, Eq, thiserror::Error)]

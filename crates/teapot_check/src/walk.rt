@@ -7,10 +7,11 @@ ghost use Rattle.teapot_rules.specs.Walks.{walk};
 
 use crate::fits::is_typed;
 use teapot_rules::{
-    Scope, comes_first, drops_cont, is_counted, is_late, is_resume, lacks_data, lesser, line_if,
-    meets, meets_in, resumes_foreign, uses_undeclared,
+    Scope, comes_first, drops_cont, is_counted, is_late, is_resume, lacks_data, line_if, meets,
+    meets_in, resumes_foreign, uses_undeclared,
 };
 use teapot_tree::{Do, Rule, Stmt};
+use tw_base::lesser;
 
 /// Whether the statement breaks the rule, where it is known whether what has to come first did, and whether a
 /// statement follows.

@@ -1,6 +1,7 @@
 -- The lines at which a rule is broken, as lists.
-use Rattle.std.specs.Prelude.{◌≡◌, ◌↔◌, ℕ, min, Bool, true, false, List, [], ◌∷◌, ◌++◌, Option, Some, None}
+use Rattle.std.specs.Prelude.{◌≡◌, ◌↔◌, ℕ, Bool, true, false, List, [], ◌∷◌, ◌++◌, Option, Some, None}
 use Rattle.std.specs.List.{list_any}
+pub use Rattle.tw_base.specs.Lists.{lesser}
 use Rattle.teapot_tree.specs.Rules.{Any}
 
 -- the line is in the list
@@ -14,11 +15,6 @@ Lists xs P = (line : ℕ) → In line xs ↔ P line
 abbrev pub line_if : Bool → ℕ → List ℕ
 line_if true line = line ∷ []
 line_if false line = []
-
-abbrev pub lesser : Option ℕ → Option ℕ → Option ℕ
-lesser None b = b
-lesser (Some a) None = Some a
-lesser (Some a) (Some b) = Some (min a b)
 
 abbrev pub least : List ℕ → Option ℕ
 least [] = None

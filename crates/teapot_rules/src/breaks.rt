@@ -8,11 +8,11 @@ ghost use Rattle.teapot_tree.specs.Scopes.{state_of};
 ghost use Rattle.teapot_rules.specs.Faults.{names_cont};
 ghost use Rattle.teapot_rules.specs.Lists.{least, line_if};
 
-use crate::lines::{lesser, line_if};
+use crate::lines::line_if;
 use crate::scope::{message_of, state_of};
 use crate::steps::{is_cont, is_message_count};
 use teapot_tree::{Handler, Protocol, Start, State, Trigger};
-use tw_base::Name;
+use tw_base::{Name, lesser};
 
 /// Whether a handler is for a message that is not declared.
 pub fn answers_undeclared(protocol: &Protocol, on: &Trigger) -> bool

@@ -23,7 +23,7 @@ pub use breaks::{
 pub use fault::{Fault, sooner};
 pub use handler_scope::Scope;
 pub use laws::{faults, firsts, one_walk, paths};
-pub use lines::{lesser, line_if};
+pub use lines::line_if;
 pub use names::visible_names;
 pub use places::Names;
 pub use scope::{
