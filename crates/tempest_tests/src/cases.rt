@@ -31,6 +31,7 @@ fn status(name: &str) -> Result<Status, Fail> {
     match name {
         "Done" => Ok(Status::Done),
         "Unfinished" => Ok(Status::Unfinished),
+        "Refused" => Ok(Status::Refused),
         _ => Err(Fail::new("a status of another name")),
     }
 }
@@ -42,13 +43,22 @@ fn expect_answer(rt: &impl Abort, alloc: Global, input: &str, question: &str) ->
     expect(rt, alloc, words, input, status(name)?, report)
 }
 
+fn expect_answers(
+    rt: &impl Abort,
+    alloc: Global,
+    input: &str,
+    questions: &str,
+) -> Result<(), Fail> {
+    for question in questions.split("=> ") {
+        expect_answer(rt, alloc, input, question)?;
+    }
+    Ok(())
+}
+
 fn expect_case(rt: &impl Abort, alloc: Global, case: &str) -> Result<(), Fail> {
     let (input, questions) = case.split_once("=> ").ok_or("no question")?;
     let text = whole(alloc, input)?;
-    for question in questions.split("=> ") {
-        expect_answer(rt, alloc, text.as_str(), question)?;
-    }
-    Ok(())
+    expect_answers(rt, alloc, text.as_str(), questions)
 }
 
 pub fn expect_all(rt: &impl Abort, alloc: Global, cases: &str) -> Result<(), Fail> {
@@ -63,5 +73,5 @@ pub fn expect_section(rt: &impl Abort, alloc: Global, cases: &str) -> Result<(),
     let first = cases.split("%%\n").next().ok_or("no case")?;
     let (input, questions) = first.split_once("=> ").ok_or("no question")?;
     let text = format!(in alloc; "{input}protocol\n{STACHE}end\n")?;
-    expect_answer(rt, alloc, text.as_str(), questions)
+    expect_answers(rt, alloc, text.as_str(), questions)
 }
