@@ -7,4 +7,4 @@ mod text;
 
 pub use laws::shipped_text_is_stache;
 pub use shipped::stache;
-pub use text::stache_text;
+pub use text::{STACHE, stache_text};

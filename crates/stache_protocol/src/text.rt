@@ -1,7 +1,8 @@
 ghost use Rattle.std.specs.Prelude.{◌≡◌};
 ghost use Rattle.stache_protocol.specs.Text.{shipped_text};
 
-const STACHE: &str = "Protocol Stache
+/// The shipped text, in its canonical spelling.
+pub const STACHE: &str = "Protocol Stache
 Message GET_RO() 0
 Message GET_RW() 0
 Message DATA_RO() 1 data
