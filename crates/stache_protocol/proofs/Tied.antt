@@ -12,7 +12,7 @@ use Rattle.teapot_print.specs.Back.{CanonIsReadBack}
 use Rattle.stache_tree.specs.Tree.{IsStache, stache}
 use Rattle.stache_protocol.specs.Laws.{TextIsStache}
 use Rattle.stache_protocol.specs.Shipped.{read_in, shipped, tree_in}
-use Rattle.stache_protocol.specs.Text.{shipped_text}
+use Rattle.shipped_text.specs.Text.{shipped_text}
 use Rattle.stache_tree.proofs.Bares.{shipped as literal}
 use Rattle.stache_protocol.proofs.Canon.{canon-is}
 use Rattle.stache_protocol.proofs.Given.{tree-is}

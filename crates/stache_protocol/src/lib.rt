@@ -3,8 +3,7 @@
 
 mod laws;
 mod shipped;
-mod text;
 
 pub use laws::shipped_text_is_stache;
 pub use shipped::stache;
-pub use text::{STACHE, stache_text};
+pub use shipped_text::stache_text;

@@ -2,10 +2,10 @@ ghost use Rattle.std.specs.Prelude.{◌≡◌, IfOk, Ok, Some};
 ghost use Rattle.tw_lex.specs.Lines.{lexed};
 ghost use Rattle.stache_tree.specs.Tree.{IsStache};
 ghost use Rattle.stache_protocol.specs.Shipped.{shipped};
-ghost use Rattle.stache_protocol.specs.Text.{shipped_text};
+ghost use Rattle.shipped_text.specs.Text.{shipped_text};
 
 use crate::laws::shipped_text_is_stache;
-use crate::text::stache_text;
+use shipped_text::stache_text;
 use std::alloc::Global;
 use teapot_check::check;
 use teapot_parse::{ParseError, parse};

@@ -2,7 +2,7 @@
 #![tactic(auto)]
 
 /// The protocol that is shipped, in its canonical spelling.
-pub use stache_protocol::STACHE;
+pub use shipped_text::STACHE;
 
 /// A home that answers nothing.
 pub const DEAF: &str = "Protocol Deaf

@@ -1,5 +1,5 @@
 ghost use Rattle.std.specs.Prelude.{◌≡◌};
-ghost use Rattle.stache_protocol.specs.Text.{shipped_text};
+ghost use Rattle.shipped_text.specs.Text.{shipped_text};
 
 /// The shipped text, in its canonical spelling.
 pub const STACHE: &str = "Protocol Stache
