@@ -1,8 +1,8 @@
 use crate::tables::{ALL, ALL_CODE, DEAF_CODE, WALK_CODE};
 use code_text::code_text;
-use suspend_split::split;
 use std::alloc::Global;
 use std::test::Fail;
+use suspend_split::split;
 use teapot_check::check;
 use teapot_parse::{parse, read_trees_are_given, texts_have_text_lines};
 use teapot_samples::{DEAF, WALK};
