@@ -7,9 +7,9 @@ use Rattle.tempest_words.specs.declared.request.Asked.{Asked}
 use Rattle.tempest_run.specs.declared.answer.Answer.{Answer}
 use Rattle.tempest_run.specs.declared.status.Status.{Status}
 use Rattle.tempest_run.specs.declared.status.Status.TheVariants as statuses
-use Rattle.tempest_run.specs.Answering.{IsAnswer, IsAnswered}
+use Rattle.tempest_run.specs.Answering.{IsAnswer, IsAnswered, reads_input}
 use Rattle.tempest_run.specs.CallLaws.{InputIsAnswered, IsAnsweredWith, LengthIsRefused, Says, StatusesSay, WordsAreRefused}
-use Rattle.tempest_run.specs.Calls.{Ends, IsDue, IsInput, answered, bad_length, bad_words, most_input, no_memory, read_fault, reads_input, write_fault, wrote}
+use Rattle.tempest_run.specs.Calls.{Ends, IsDue, IsInput, answered, bad_length, bad_words, most_input, no_memory, read_fault, write_fault, wrote}
 
 -- a text is answered with one of three statuses
 abbrev pub AnswersAnswer : Type 0

@@ -33,6 +33,7 @@ use Rattle.tempest_run.specs.declared.answer.Answer.{Answer}
 use Rattle.tempest_run.specs.declared.status.Status.{Status}
 use Rattle.tempest_run.specs.declared.status.Status.TheVariants as statuses
 use Rattle.stache_tree.specs.Tree.{IsStache}
+use Rattle.stache_cases.specs.Text.{table_text}
 use Rattle.tempest_run.specs.Inputs.{input_of}
 use Rattle.tempest_run.specs.OneMemory.{OneMemory}
 
@@ -130,12 +131,17 @@ pub record TellsOfCode (p : Protocol) (a : Answer) : Type 0 where
 abbrev pub options_of : Asked → Options
 options_of asked = record { journal = asked.journal; counts = false }
 
--- the answer to a command about what a text sets up
+-- the table of the shipped protocol
+abbrev pub table_answer : Answer
+table_answer = record { status = statuses.Done; text = table_text }
+
+-- the answer to a command where a text sets this up
 abbrev pub Answers : Command → Options → Setup → Answer → Type 0
 Answers (commands.Serial stride) o s a = TellsOfRun s stride o a
 Answers commands.Check o s a = a ≡ check_answer s.protocol
 Answers commands.Code o s a = TellsOfCode s.protocol a
 Answers commands.Show o s a = a ≡ show_answer s.protocol
+Answers commands.Table o s a = a ≡ table_answer
 
 -- the answer about what a text sets up, or its refusal
 abbrev pub AnswersIn : Command → Options → Result Setup InputError → Answer → Type 0
@@ -143,9 +149,22 @@ AnswersIn command o (Ok s) a = Answers command o s a
 AnswersIn command o (Err (errors.Refused number reason)) a = a ≡ refusal number reason
 AnswersIn command o (Err errors.Memory) a = ⊥
 
--- The answer to a text. A run on the model is the same run.
+-- whether a command reads an input
+abbrev pub reads_input : Command → Bool
+reads_input commands.Check = true
+reads_input commands.Code = true
+reads_input commands.Show = true
+reads_input commands.Table = false
+reads_input (commands.Serial stride) = true
+
+-- about its input, or without one
+abbrev pub IsAnswerIf : Bool → Command → Options → List ℕ → Answer → Type 0
+IsAnswerIf true command o text a = AnswersIn command o (input_of text) a
+IsAnswerIf false command o text a = a ≡ table_answer
+
+-- The answer to a text, which is the table where the command reads none. A run on the model is the same run.
 abbrev pub IsAnswer : Asked → List ℕ → Answer → Type 0
-IsAnswer asked text a = AnswersIn asked.command (options_of asked) (input_of text) a
+IsAnswer asked text a = IsAnswerIf (reads_input asked.command) asked.command (options_of asked) text a
 
 -- the statuses with which a text is answered
 abbrev pub IsAnswered : Status → Type 0

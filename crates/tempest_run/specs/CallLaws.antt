@@ -8,8 +8,8 @@ use Rattle.tempest_words.specs.declared.request.Asked.{Asked}
 use Rattle.tempest_run.specs.declared.answer.Answer.{Answer}
 use Rattle.tempest_run.specs.declared.status.Status.{Status}
 use Rattle.tempest_run.specs.declared.status.Status.TheVariants as statuses
-use Rattle.tempest_run.specs.Answering.{IsAnswer}
-use Rattle.tempest_run.specs.Calls.{IsDue, IsInput, TopCall, most_input, reads_input, refused_length, refused_words}
+use Rattle.tempest_run.specs.Answering.{IsAnswer, reads_input}
+use Rattle.tempest_run.specs.Calls.{IsDue, IsInput, TopCall, most_input, refused_length, refused_words}
 
 -- the words ask for something, the text is its input, and this status and what was written are the answer
 abbrev pub IsAnsweredWith : Option Asked → Told → Told → Told → Told → List ℕ → Status → Type 0

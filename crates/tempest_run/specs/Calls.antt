@@ -5,8 +5,6 @@ use Rattle.tw_io.specs.Causes.{Rose}
 use Rattle.tw_io.specs.Reading.{AppendsPrefix}
 use Rattle.tw_io.specs.Told.{Told}
 use Rattle.tempest_words.specs.declared.request.Asked.{Asked}
-use Rattle.tempest_words.specs.declared.request.Command.{Command}
-use Rattle.tempest_words.specs.declared.request.Command.TheVariants as commands
 use Rattle.tempest_run.specs.declared.answer.Answer.{Answer}
 use Rattle.tempest_run.specs.declared.due.Due.{Due}
 use Rattle.tempest_run.specs.declared.due.Due.TheVariants as dues
@@ -16,7 +14,7 @@ use Rattle.tempest_run.specs.declared.given.Stopped.{Stopped}
 use Rattle.tempest_run.specs.declared.given.Stopped.TheVariants as stops
 use Rattle.tempest_run.specs.declared.status.Status.{Status}
 use Rattle.tempest_run.specs.declared.status.Status.TheVariants as statuses
-use Rattle.tempest_run.specs.Answering.{IsAnswer}
+use Rattle.tempest_run.specs.Answering.{IsAnswer, reads_input}
 
 -- what an end tells of its bytes, and how often it failed
 abbrev pub told : Option (List ℕ) → ℕ → Told
@@ -25,13 +23,6 @@ told bytes faults = record { bytes = bytes; faults = faults }
 -- how many bytes an input may have
 abbrev pub most_input : ℕ
 most_input = 1048576
-
--- whether a command reads an input
-abbrev pub reads_input : Command → Bool
-reads_input commands.Check = true
-reads_input commands.Code = true
-reads_input commands.Show = true
-reads_input (commands.Serial stride) = true
 
 -- The text of a command is its whole input, of as many bytes as it may have; and empty where it reads none, with the source
 -- as it was.

@@ -1,8 +1,9 @@
 ghost use Rattle.std.specs.Prelude.{◌≡◌, ◌+◌, ◌^◌, ◌<◌, length, IfOk};
 ghost use Rattle.std.specs.List.{list_all};
-ghost use Rattle.tempest_run.specs.Answering.{Answers, IsAnswer, TellsOfCode, TellsOfRun, has_halted, options_of, refusal, show_answer, status_of, why_text};
+ghost use Rattle.tempest_run.specs.Answering.{Answers, IsAnswer, TellsOfCode, TellsOfRun, has_halted, options_of, refusal, show_answer, status_of, table_answer, why_text};
 
 use crate::accepted::check_answer;
+use crate::given::reads_input;
 use crate::input::read_input;
 use crate::status::Status;
 use code_text::code_text;
@@ -10,6 +11,7 @@ use dsm_model::{Global, settle};
 use dsm_runs::{Outcome, Setup, runs_are_short, schedules_are_one_run};
 use journal::{Final, Options, finals_of, first_break, history_is_told, report, words_of};
 use mini_asm::Flat;
+use stache_cases::table;
 use std::alloc;
 use suspend_split::split;
 use teapot_print::print;
@@ -142,6 +144,16 @@ fn code_answer(alloc: alloc::Global, protocol: &Checked) -> Result<Answer, Memor
     })
 }
 
+// The table of the shipped protocol.
+fn table_answer(alloc: alloc::Global) -> Result<Answer, Memory>
+    ensures { IfOk result (λ a. a ≡ table_answer) }
+{
+    Ok(Answer {
+        status: Status::Done,
+        text: Listed::of(table(alloc)?),
+    })
+}
+
 fn options_of(asked: Asked) -> Options
     ensures { result ≡ options_of asked }
 {
@@ -151,7 +163,7 @@ fn options_of(asked: Asked) -> Options
     }
 }
 
-// The answer about what a text sets up.
+// The answer where a text sets this up.
 fn answer_about(alloc: alloc::Global, asked: Asked, setup: &Setup) -> Result<Answer, Memory>
     ensures { IfOk result (λ a. Answers asked.command (options_of asked) setup.now a) }
 {
@@ -160,14 +172,18 @@ fn answer_about(alloc: alloc::Global, asked: Asked, setup: &Setup) -> Result<Ans
         Command::Check => check_answer(alloc, setup.protocol()),
         Command::Code => code_answer(alloc, setup.protocol()),
         Command::Show => show_answer(alloc, setup.protocol()),
+        Command::Table => table_answer(alloc),
     }
 }
 
-/// The answer to a text.
+/// The answer to a text, of which a command that reads none does not speak.
 pub fn answer_to(alloc: alloc::Global, asked: Asked, text: &[u8]) -> Result<Answer, Memory>
     requires { length text.now + 2 < 2 ^ 32 }
     ensures { IfOk result (λ a. IsAnswer asked text.now a) }
 {
+    if !reads_input(asked.command) {
+        return table_answer(alloc);
+    }
     match read_input(alloc, text) {
         Ok(setup) => answer_about(alloc, asked, &setup),
         Err(InputError::Refused { line, why }) => refusal(alloc, line, why),

@@ -1,7 +1,8 @@
 ghost use Rattle.std.specs.Prelude.{◌≡◌, map};
 ghost use Rattle.std.specs.String.{string_bytes};
 ghost use Rattle.tempest_words.specs.Words.{asked};
-ghost use Rattle.tempest_run.specs.Calls.{Gives, reads_input, told};
+ghost use Rattle.tempest_run.specs.Answering.{reads_input};
+ghost use Rattle.tempest_run.specs.Calls.{Gives, told};
 
 use std::alloc::Global;
 use tempest_words::{Asked, Command, asked};
@@ -30,11 +31,12 @@ pub enum Stopped {
 }
 
 /// Whether a command reads an input.
-fn reads_input(command: Command) -> bool
+pub fn reads_input(command: Command) -> bool
     ensures { result ≡ reads_input command }
 {
     match command {
         Command::Check | Command::Code | Command::Show | Command::Serial(_) => true,
+        Command::Table => false,
     }
 }
 

@@ -32,7 +32,8 @@ command_named w =
     if bytes_eq w (codes "check") then Some names.Check else
     (if bytes_eq w (codes "code") then Some names.Code else
     (if bytes_eq w (codes "show") then Some names.Show else
-    (if bytes_eq w (codes "serial") then Some names.Serial else None)))
+    (if bytes_eq w (codes "table") then Some names.Table else
+    (if bytes_eq w (codes "serial") then Some names.Serial else None))))
 
 -- one or more digits, of a value below 2^32
 abbrev pub number_of : List ℕ → Option ℕ
@@ -87,6 +88,7 @@ abbrev pub as_command : Option Named → Option ℕ → Option Command
 as_command (Some names.Check) None = Some commands.Check
 as_command (Some names.Code) None = Some commands.Code
 as_command (Some names.Show) None = Some commands.Show
+as_command (Some names.Table) None = Some commands.Table
 as_command (Some names.Serial) (Some stride) = Some (commands.Serial stride)
 as_command _ _ = None
 

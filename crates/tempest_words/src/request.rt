@@ -7,6 +7,8 @@ pub enum Command {
     Code,
     /// Write the protocol of the input in its canonical spelling.
     Show,
+    /// Write the table of the shipped protocol. It reads no input.
+    Table,
     /// Run the input in the serial schedule of this stride.
     Serial(u32),
 }

@@ -40,7 +40,11 @@ serial 0 -- --journal => nothing
 serial -- --journal => nothing
 - => nothing
 run => nothing
-table => nothing
+table => table
+table 0 => nothing
+table --journal => nothing
+table -- => table
+Table => nothing
 Check => nothing
 serial 0 1 => nothing
 -- check => check
@@ -67,6 +71,7 @@ fn shown(alloc: Global, asked: Option<Asked>) -> Result<String, Fail> {
         Command::Check => String::from_str(alloc, "check")?,
         Command::Code => String::from_str(alloc, "code")?,
         Command::Show => String::from_str(alloc, "show")?,
+        Command::Table => String::from_str(alloc, "table")?,
         Command::Serial(stride) => format!(in alloc; "serial:{stride}")?,
     };
     if asked.journal {

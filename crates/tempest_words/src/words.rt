@@ -22,6 +22,7 @@ enum Named {
     Check,
     Code,
     Show,
+    Table,
     Serial,
 }
 
@@ -119,6 +120,7 @@ impl Read {
             (Some(Named::Check), None) => Some(Command::Check),
             (Some(Named::Code), None) => Some(Command::Code),
             (Some(Named::Show), None) => Some(Command::Show),
+            (Some(Named::Table), None) => Some(Command::Table),
             (Some(Named::Serial), Some(stride)) => Some(Command::Serial(stride)),
             _ => None,
         }
@@ -130,11 +132,16 @@ impl Read {
     {
         let (journal, meaning) = (self.journal, self.meaning);
         match self.command()? {
-            Command::Check | Command::Code | Command::Show if journal || meaning => None,
-            command => Some(Asked {
-                command,
+            Command::Serial(stride) => Some(Asked {
+                command: Command::Serial(stride),
                 journal,
                 meaning,
+            }),
+            _ if journal || meaning => None,
+            command => Some(Asked {
+                command,
+                journal: false,
+                meaning: false,
             }),
         }
     }
@@ -165,6 +172,8 @@ fn command_named(word: &str) -> Option<Named>
         Some(Named::Code)
     } else if word == "show" {
         Some(Named::Show)
+    } else if word == "table" {
+        Some(Named::Table)
     } else if word == "serial" {
         Some(Named::Serial)
     } else {
