@@ -531,7 +531,7 @@ fn protocols_are_checked(rt: HostRuntime) -> Result<(), Fail> {
     Ok(())
 }
 
-const NO_COMMANDS: [&str; 20] = [
+const NO_COMMANDS: [&str; 19] = [
     "",
     "serial",
     "serial -1",
@@ -549,7 +549,6 @@ const NO_COMMANDS: [&str; 20] = [
     "serial 0 --journal --journal",
     "serial 0 --counts",
     "check --meaning",
-    "table",
     "serial --batch 1 0",
     "Show",
 ];
