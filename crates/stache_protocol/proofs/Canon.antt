@@ -7,7 +7,7 @@ use Rattle.teapot_parse.specs.Trees.{Lines, info_line, message_line, start_line,
 use Rattle.teapot_print.specs.Text.{canon, line_text, lines_text}
 use Rattle.stache_tree.specs.Tree.{stache, states}
 use Rattle.shipped_text.specs.Text.{shipped_text}
-use Rattle.stache_protocol.proofs.Doors.{told, told-is}
+use Rattle.stache_rules.proofs.Doors.{told, told-is}
 use Rattle.stache_protocol.proofs.Spelled.{states-text, states_text}
 
 -- the lines before the states

@@ -6,8 +6,9 @@ ghost use Rattle.shipped_text.specs.Text.{shipped_text};
 
 use crate::laws::shipped_text_is_stache;
 use shipped_text::stache_text;
+use stache_rules::stache_is_accepted;
 use std::alloc::Global;
-use teapot_check::check;
+use teapot_check::{CheckError, check};
 use teapot_parse::{ParseError, parse};
 use teapot_tree::{Checked, Protocol};
 use tw_base::Memory;
@@ -41,15 +42,17 @@ fn text_tree(alloc: Global) -> Result<Protocol, Memory>
     }
 }
 
-/// Stache: the tree that its text gives, and it breaks no rule.
+/// Stache: the tree that its text gives, and it breaks no rule. It is answered, or memory ran out.
 pub fn stache(alloc: Global) -> Result<Checked, Memory>
     ensures text { IfOk result (λ c. shipped ≡ Some c) }
     ensures tree { IfOk result IsStache }
 {
     shipped_text_is_stache();
+    stache_is_accepted();
     let protocol = text_tree(alloc)?;
-    let Ok(checked) = check(alloc, protocol) else {
-        return Err(Memory);
-    };
-    Ok(checked)
+    match check(alloc, protocol) {
+        Ok(checked) => Ok(checked),
+        Err(CheckError::Memory) => Err(Memory),
+        Err(CheckError::Broken { line: _, rule: _ }) => unreachable!(),
+    }
 }

@@ -1,0 +1,7 @@
+//! The shipped protocol breaks no rule of the language. There is no code here: a law says it of each protocol that is the
+//! shipped one but for line numbers.
+#![tactic(auto)]
+
+mod laws;
+
+pub use laws::stache_is_accepted;
