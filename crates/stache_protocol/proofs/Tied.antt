@@ -15,7 +15,7 @@ use Rattle.stache_protocol.specs.Shipped.{read_in, shipped, tree_in}
 use Rattle.shipped_text.specs.Text.{shipped_text}
 use Rattle.stache_tree.proofs.Bares.{shipped as literal}
 use Rattle.stache_protocol.proofs.Canon.{canon-is}
-use Rattle.stache_protocol.proofs.Given.{tree-is}
+use Rattle.stache_rules.proofs.Given.{tree-is}
 
 pub text_is_stache : CanonIsReadBack → TextIsStache
 unfolding shipped

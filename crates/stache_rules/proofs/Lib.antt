@@ -5,4 +5,6 @@ pub mod Doors
 pub mod Terms
 pub mod Acts
 pub mod Literal
+pub mod Given
+pub mod Trees
 pub mod Accepted

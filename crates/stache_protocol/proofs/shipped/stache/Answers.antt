@@ -14,4 +14,4 @@ returns-in-Ok-clause-tree c = is-stache c.shipped_text_is_stache.ensures _ (c.in
 pub unreachable-requires : goal.unreachable-requires
 unreachable-requires c =
     let answer = rw c.in-Err-Broken.field-0-is at c.in-Err-Broken.ensures in
-    c.stache_is_accepted.ensures.keeps _ (is-stache c.shipped_text_is_stache.ensures _ c.in_ok-protocol.ensures) _ _ answer.broken
+    (c.stache_is_accepted.ensures _ (is-stache c.shipped_text_is_stache.ensures _ c.in_ok-protocol.ensures)).keeps _ _ answer.broken
