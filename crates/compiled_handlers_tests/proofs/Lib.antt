@@ -1,2 +1,4 @@
 mod Chaining
+mod Parting
 mod Standing
+mod Unwritten

@@ -1,16 +1,18 @@
 //! A block as a node keeps it for compiled handlers, beside the block of the interpreter.
 
-ghost use Rattle.std.specs.Prelude.{[], ◌≡◌, ◌^◌, ◌<◌, ◌≤◌, IfOk, OnOk, None, length, map, take, true};
+ghost use Rattle.std.specs.Prelude.{[], ℕ, ◌≡◌, ◌^◌, ◌<◌, ◌≤◌, IfOk, OnOk, None, length, map, take, true};
 ghost use Rattle.teapot_tree.specs.declared.protocol.Protocol.{Protocol};
 ghost use Rattle.teapot_meaning.specs.Does.{Does};
 ghost use Rattle.teapot_meaning.specs.Fits.{Fits, IsMessageOf, type_of, types_of};
 ghost use Rattle.teapot_meaning.specs.declared.state.Ended.{Ended};
 ghost use Rattle.cont_store.specs.Store.{Store};
 ghost use Rattle.handler_code.specs.declared.code.Code.{Code};
+ghost use Rattle.handler_vm.specs.declared.cell.Cell.{Cell};
 ghost use Rattle.handler_vm.specs.Chains.{IsChain};
 ghost use Rattle.compiled_meaning.specs.Whole.{IsCode};
 ghost use Rattle.compiled_handlers.specs.Standing.{BlockStands};
 ghost use Rattle.compiled_handlers_tests.specs.Alike.{Alike, EndsAlike, IsPlain};
+ghost use Rattle.compiled_handlers_tests.specs.Beside.{IsBeside, StaysBeside};
 
 use crate::chain::same_chain;
 use crate::messages::{have_types, is_message};
@@ -18,7 +20,7 @@ use block_tags::Blocks;
 use compiled_handlers::handle;
 use cont_store::Conts;
 use handler_code::Code;
-use handler_vm::{Around, Cell, Ran};
+use handler_vm::{Around, Cell, Ran, chains_stay_apart};
 use std::alloc::Global;
 use std::test::Fail;
 use teapot_interpreter::run;
@@ -32,6 +34,13 @@ pub struct Both {
     pub blocks: Blocks,
     pub conts: Conts,
     pub around: Around,
+    pub here: Here,
+}
+
+/// Another block of the same node, whose records are in the same store.
+#[derive(Drop)]
+pub struct Side {
+    pub cell: Cell,
     pub here: Here,
 }
 
@@ -161,11 +170,39 @@ pub fn first(
     })
 }
 
+/// Another block of the node, in this state.
+pub fn another(
+    alloc: Global,
+    p: &Checked,
+    state: u8,
+    both: &Both,
+    block: BlockId,
+) -> Result<Side, Fail>
+    ensures { (code : Code) → IfOk result (λ side. IsBeside p.now code (record { cell = both.now.cell; blocks = both.now.blocks; conts = both.now.conts }) both.now.here.block side.cell side.here) }
+{
+    let protocol = p.protocol();
+    if !begins_in(protocol, state) {
+        return Err(Fail::new("no state to begin in"));
+    }
+    if block.get() >= both.blocks.shape().blocks() {
+        return Err(Fail::new("no block of the node"));
+    }
+    if block == both.here.block {
+        return Err(Fail::new("the same block"));
+    }
+    let cell = first_cell(protocol, state);
+    let here = first_here(alloc, protocol, &cell, &both.blocks, block)?;
+    Ok(Side { cell, here })
+}
+
 // Room for what a message may send and save.
 fn ready(both: &mut Both) -> Result<(), Memory>
     ensures room { OnOk result (1 ≤ both.new.conts.spare) }
     ensures same { both.new ≡ record both.old { conts = both.new.conts; around = both.new.around } }
     ensures alike { (p : Protocol) (code : Code) → Alike p code (record { cell = both.old.cell; blocks = both.old.blocks; conts = both.old.conts }) both.old.here → Alike p code (record { cell = both.new.cell; blocks = both.new.blocks; conts = both.new.conts }) both.new.here }
+    ensures beside { (p : Protocol) (code : Code) (block : ℕ) (other : Cell) (there : Here) →
+        IsBeside p code (record { cell = both.old.cell; blocks = both.old.blocks; conts = both.old.conts }) block other there →
+        StaysBeside p code (record { cell = both.old.cell; blocks = both.old.blocks; conts = both.old.conts }) (record { cell = both.new.cell; blocks = both.new.blocks; conts = both.new.conts }) block other there }
 {
     both.conts.reserve()?;
     both.around.ready()
@@ -181,8 +218,12 @@ fn run_code(code: &Code, p: &Checked, both: &mut Both, m: &Message) -> Ran
     requires spare { 1 ≤ both.old.conts.spare }
     ensures same { both.new.here ≡ both.old.here }
     ensures alike { (e : Ended) → Does p.now both.old.here m.now e → EndsAlike p.now code.now (record { cell = both.new.cell; blocks = both.new.blocks; conts = both.new.conts }) both.new.here.block e }
+    ensures beside { (other : Cell) (there : Here) →
+        IsBeside p.now code.now (record { cell = both.old.cell; blocks = both.old.blocks; conts = both.old.conts }) m.now.block other there →
+        StaysBeside p.now code.now (record { cell = both.old.cell; blocks = both.old.blocks; conts = both.old.conts }) (record { cell = both.new.cell; blocks = both.new.blocks; conts = both.new.conts }) m.now.block other there }
 {
     fitting_blocks_stay_fit();
+    chains_stay_apart();
     let _protocol = p.protocol();
     let _shape = both.blocks.shape();
     let me = both.here.me;
@@ -211,7 +252,12 @@ pub fn handled(
     requires code { IsCode p.now code.now }
     requires short { length code.now.ops < 2 ^ 22 }
     requires alike { Alike p.now code.now (record { cell = both.old.cell; blocks = both.old.blocks; conts = both.old.conts }) both.old.here }
-    ensures { IfOk result (λ done. EndsAlike p.now code.now (record { cell = both.new.cell; blocks = both.new.blocks; conts = both.new.conts }) both.new.here.block done.1) }
+    ensures ends { IfOk result (λ done. EndsAlike p.now code.now (record { cell = both.new.cell; blocks = both.new.blocks; conts = both.new.conts }) both.new.here.block done.1) }
+    ensures block { OnOk result (m.now.block ≡ both.old.here.block) }
+    ensures same { OnOk result (both.new.here ≡ both.old.here) }
+    ensures beside { (other : Cell) (there : Here) →
+        IsBeside p.now code.now (record { cell = both.old.cell; blocks = both.old.blocks; conts = both.old.conts }) m.now.block other there →
+        OnOk result (StaysBeside p.now code.now (record { cell = both.old.cell; blocks = both.old.blocks; conts = both.old.conts }) (record { cell = both.new.cell; blocks = both.new.blocks; conts = both.new.conts }) m.now.block other there) }
 {
     let words = both.blocks.shape().words();
     if m.block != both.here.block || !is_message(p.protocol(), words, m) {
@@ -236,7 +282,12 @@ pub fn records(both: &Both) -> u8
 /// Goes on from what a message left, if it is the same block and its records are those of the interpreter's continuations.
 pub fn go_on(code: &Code, both: &mut Both, end: Ended) -> Result<(), Fail>
     requires { IsChain both.old.blocks.shape.words both.old.conts both.old.cell.cont }
-    ensures { (p : Protocol) → EndsAlike p code.now (record { cell = both.old.cell; blocks = both.old.blocks; conts = both.old.conts }) both.old.here.block end → OnOk result (Alike p code.now (record { cell = both.new.cell; blocks = both.new.blocks; conts = both.new.conts }) both.new.here) }
+    ensures alike { (p : Protocol) → EndsAlike p code.now (record { cell = both.old.cell; blocks = both.old.blocks; conts = both.old.conts }) both.old.here.block end → OnOk result (Alike p code.now (record { cell = both.new.cell; blocks = both.new.blocks; conts = both.new.conts }) both.new.here) }
+    ensures block { OnOk result (both.new.here.block ≡ both.old.here.block) }
+    ensures conts { both.new.conts ≡ both.old.conts }
+    ensures beside { (p : Protocol) (block : ℕ) (other : Cell) (there : Here) →
+        IsBeside p code.now (record { cell = both.old.cell; blocks = both.old.blocks; conts = both.old.conts }) block other there →
+        IsBeside p code.now (record { cell = both.new.cell; blocks = both.new.blocks; conts = both.new.conts }) block other there }
 {
     let Ended {
         here,

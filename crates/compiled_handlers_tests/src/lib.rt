@@ -5,6 +5,8 @@
 #[cfg(test)]
 mod alike;
 #[cfg(test)]
+mod beside;
+#[cfg(test)]
 mod both;
 #[cfg(test)]
 mod chain;

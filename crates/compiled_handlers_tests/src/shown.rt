@@ -16,7 +16,7 @@ fn text(bytes: &[u8]) -> &str {
 }
 
 /// A value: a number, `true`, a node as `@3`, a set as `{14}`.
-fn put_value(out: &mut String, value: Value) -> Result<(), Fail> {
+pub fn put_value(out: &mut String, value: Value) -> Result<(), Fail> {
     match value {
         Value::Int(n) => write!(out, "{n}")?,
         Value::Bool(b) => write!(out, "{b}")?,

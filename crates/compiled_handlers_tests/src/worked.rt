@@ -26,8 +26,8 @@ fn blocks(alloc: Global) -> Result<Blocks, Fail> {
     Ok(Blocks::new(alloc, shape, me, Tag::Invalid, Tag::Invalid, &[(0, 5)])?)
 }
 
-// The message that a word such as `GET@3` stands for, with the word 9 where it has data.
-fn message(p: &Protocol, word: &str, block: BlockId) -> Result<Message, Fail> {
+/// The message that a word such as `GET@3` stands for, with the word 9 where it has data.
+pub fn message(p: &Protocol, word: &str, block: BlockId) -> Result<Message, Fail> {
     let (name, from) = word.split_once('@').unwrap_or((word, "1"));
     let digit = from.as_bytes().first().unwrap_or(&b'1');
     let from = NodeId::new(digit.saturating_sub(b'0')).ok_or("node")?;
