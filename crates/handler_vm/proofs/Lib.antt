@@ -1,5 +1,5 @@
 mod Acting
-mod Chaining
+pub mod Chaining
 mod Entering
 mod Finding
 mod Going
