@@ -1,0 +1,4 @@
+pub mod Away
+pub mod Layers
+pub mod Lists
+pub mod Sets

@@ -1,0 +1,4 @@
+pub mod Counts
+pub mod Notes
+pub mod Seeing
+pub mod Whose
