@@ -43,3 +43,6 @@ pub each_more : (P : Note → Type 0) (ns : List Note) (x : Note) (a b r : Bool)
 each_more P ns x a b r h k e =
     let d = both_hold a b (Each P ns) (P x) h k in
     (λ y. let p = d.0 (sym e ∙ y) in each_end P ns x p.0 p.1, λ y. e ∙ d.1 (each_before P ns x y))
+
+pub both_so : (a b r : Bool) (P Q : Type 0) → Decides a P → Decides b Q → r ≡ a && b → Decides r (P × Q)
+both_so a b r P Q h k e = let d = both_hold a b P Q h k in (λ y. d.0 (sym e ∙ y), λ y. e ∙ d.1 y)

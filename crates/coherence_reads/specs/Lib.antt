@@ -1,4 +1,5 @@
 pub mod Counts
+pub mod Deferring
 pub mod Notes
 pub mod Seeing
 pub mod Whose

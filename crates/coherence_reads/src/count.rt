@@ -1,6 +1,12 @@
-ghost use Rattle.std.specs.Prelude.{ℕ, ◌≡◌, ◌≤◌, ◌+◌};
+ghost use Rattle.std.specs.Prelude.{ℕ, ◌≡◌, ◌≤◌, ◌+◌, ◌&&◌};
 ghost use Rattle.std.specs.Bool.{Decides};
 ghost use Rattle.coherence_reads.specs.Counts.{IsCount};
+
+pub fn both(first: bool, second: bool) -> bool
+    ensures { result ≡ first && second }
+{
+    first && second
+}
 
 /// A number, as far as it matters whether it is 0 or 1.
 #[derive(Clone, Copy)]
@@ -25,6 +31,12 @@ impl Count {
         ensures { (n : ℕ) → IsCount self n → Decides result (n ≡ 1) }
     {
         matches!(self, Count::One)
+    }
+
+    pub fn is_at_most_one(self) -> bool
+        ensures { (n : ℕ) → IsCount self n → Decides result (n ≤ 1) }
+    {
+        !matches!(self, Count::More)
     }
 
     pub fn next(self) -> Count

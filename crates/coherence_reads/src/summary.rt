@@ -1,9 +1,10 @@
-ghost use Rattle.std.specs.Prelude.{◌≡◌, ◌++◌, ◌∷◌, ◌+◌, [], List, ℕ, ◌&&◌, true, false};
+ghost use Rattle.std.specs.Prelude.{◌≡◌, ◌++◌, ◌∷◌, ◌+◌, [], List, ℕ, true, false};
 ghost use Rattle.tw_base.specs.Lists.{how_many};
 ghost use Rattle.block_spots.specs.Notes as marks;
 ghost use Rattle.coherence_reads.specs.Counts.{IsCount};
 ghost use Rattle.coherence_reads.specs.Notes.{IsSummary, note_in, of_sort};
 
+use crate::count::both;
 use crate::{Count, Few, Note};
 use tw_base::Data;
 
@@ -58,12 +59,6 @@ fn counted(count: Count, note: &Note, sort: Sort) -> Count
     } else {
         count
     }
-}
-
-fn both(first: bool, second: bool) -> bool
-    ensures { result ≡ first && second }
-{
-    first && second
 }
 
 impl Summary {

@@ -1,0 +1,171 @@
+ghost use Rattle.std.specs.Prelude.{ℕ, ◌≡◌, ◌+◌, ◌≤◌, List, []};
+ghost use Rattle.std.specs.Bool.{Decides};
+ghost use Rattle.tw_base.specs.Lists.{Each, how_many};
+ghost use Rattle.block_spots.specs.Cases.{CacheRo, Here, HomeRw};
+ghost use Rattle.block_spots.specs.Notes as marks;
+ghost use Rattle.coherence_inv.specs.Coherent.{HasWords, InHomeRoOrAcks};
+ghost use Rattle.coherence_inv.specs.Parts.{First, Second, Third, Fourth, Fifth, Sixth};
+ghost use Rattle.coherence_reads.specs.Counts.{IsCount};
+ghost use Rattle.coherence_reads.specs.Notes.{IsFew};
+ghost use Rattle.coherence_reads.specs.Seeing.{CacheFits, IsOfHome, IsSeen, IsSpot, OwnPlaces, OwnRequests, here_in, which};
+ghost use Rattle.coherence_reads.specs.Whose.{state_in};
+
+use crate::count::both;
+use crate::standing::stands;
+use crate::states::{held_home, held_ro, held_rw, is_cache, is_shared, one_request, rest_fits, tag_of};
+use crate::{Count, Few, Home, OfHome, Part, Seen, Spot};
+use stache_check::Place;
+use tw_base::{Data, NodeId};
+
+/// The GET_ROs of a cache on the way, deferred or held.
+fn asks_ro(x: &Spot, home: &Home, node: NodeId) -> Count
+    ensures { (w : ℕ) (ws : List ℕ) (s : marks.Spot) → IsSpot w ws x.now s → IsCount result (marks.gets_ro s + marks.held_ro (here_in home.now).rest node) }
+{
+    x.ask.get_ro.plus(x.kept.get_ro).plus(held_ro(home.whose, node))
+}
+
+/// The GET_RWs of a cache on the way or deferred.
+fn gets_rw(x: &Spot) -> Count
+    ensures { (w : ℕ) (ws : List ℕ) (s : marks.Spot) → IsSpot w ws x.now s → IsCount result (marks.gets_rw s) }
+{
+    x.ask.get_rw.plus(x.kept.get_rw)
+}
+
+/// The GET_RWs of a cache on the way, deferred or held.
+fn asks_rw(x: &Spot, home: &Home, node: NodeId) -> Count
+    ensures { (w : ℕ) (ws : List ℕ) (s : marks.Spot) → IsSpot w ws x.now s → IsCount result (marks.gets_rw s + marks.held_rw (here_in home.now).rest node) }
+{
+    gets_rw(x).plus(held_rw(home.whose, node))
+}
+
+fn seen(x: &Spot, home: &Home, node: NodeId) -> Seen
+    ensures { (w : ℕ) (ws : List ℕ) (s : marks.Spot) → IsSpot w ws x.now s → IsSeen result s (marks.gets_ro s + marks.held_ro (here_in home.now).rest node) (marks.gets_rw s + marks.held_rw (here_in home.now).rest node) }
+{
+    Seen {
+        place: x.place,
+        gets: gets_rw(x),
+        ro: asks_ro(x, home, node),
+        wr: asks_rw(x, home, node),
+        down: x.down.few,
+        up: x.up.few,
+    }
+}
+
+fn of_home(home: &Home, node: NodeId) -> OfHome
+    ensures { IsOfHome result (here_in home.now) node }
+{
+    OfHome {
+        member: home.sharers.has(node),
+        owner: node == home.owner,
+        held_ro: held_ro(home.whose, node),
+        held_rw: held_rw(home.whose, node),
+    }
+}
+
+fn has_tag(x: &Spot) -> bool
+    ensures { (w n h i : ℕ) (ws : List ℕ) (home : Here) (s : marks.Spot) → IsSpot w ws x.now s → Decides result (CacheFits First w n h home i s) }
+{
+    is_cache(x.place) && x.tag == tag_of(x.place)
+}
+
+fn has_rest(x: &Spot, nodes: u8, home: NodeId) -> bool
+    ensures { (w i : ℕ) (ws : List ℕ) (at : Here) (s : marks.Spot) → IsSpot w ws x.now s → Decides result (CacheFits Second w nodes home at i s) }
+{
+    rest_fits(nodes, home, x.place, x.whose)
+}
+
+fn has_its_notes(x: &Spot) -> bool
+    ensures { (w n h i : ℕ) (ws : List ℕ) (home : Here) (s : marks.Spot) → IsSpot w ws x.now s → Decides result (CacheFits Third w n h home i s) }
+{
+    x.ask.gets && x.kept.gets && x.down.downs && x.up.ups
+}
+
+fn has_one_request(x: &Spot, home: &Home, node: NodeId) -> bool
+    ensures { (w n h : ℕ) (ws : List ℕ) (s : marks.Spot) → IsSpot w ws x.now s → Decides result (CacheFits Fourth w n h (here_in home.now) node s) }
+{
+    one_request(x.place, asks_ro(x, home, node).plus(x.down.data_ro), asks_rw(x, home, node).plus(x.down.data_rw))
+}
+
+fn stands_so(x: &Spot, home: &Home, node: NodeId) -> bool
+    ensures { (w n h : ℕ) (ws : List ℕ) (s : marks.Spot) → IsSpot w ws x.now s → Decides result (CacheFits Fifth w n h (here_in home.now) node s) }
+{
+    stands(home.place, of_home(home, node), &seen(x, home, node))
+}
+
+fn are_same(words: Data, others: Data) -> bool
+    ensures { Decides result (words ≡ others) }
+{
+    words == others
+}
+
+/// Whether a copy that the home may share has the home's words.
+fn has_its_words(x: &Spot, home: &Home) -> bool
+    ensures { (w : ℕ) (ws : List ℕ) (s : marks.Spot) → IsSpot w ws x.now s → Decides result (InHomeRoOrAcks (here_in home.now).state → s.state ≡ CacheRo → s.words ≡ (here_in home.now).words) }
+{
+    if !is_shared(home.place) {
+        return true;
+    }
+    match x.place {
+        Place::CacheRo => are_same(x.words, home.words),
+        _ => true,
+    }
+}
+
+/// Whether a copy on the way, which the home may share, has the home's words.
+fn brings_its_words(x: &Spot, home: &Home) -> bool
+    ensures { (w : ℕ) (s : marks.Spot) → IsSpot w home.now.words x.now s → Decides result (InHomeRoOrAcks (here_in home.now).state → Each (HasWords (here_in home.now).words) s.down) }
+{
+    if !is_shared(home.place) {
+        return true;
+    }
+    x.down.same
+}
+
+fn has_copy(x: &Spot, home: &Home) -> bool
+    ensures { (w n h i : ℕ) (s : marks.Spot) → IsSpot w home.now.words x.now s → Decides result (CacheFits Sixth w n h (here_in home.now) i s) }
+{
+    both(has_its_words(x, home), brings_its_words(x, home))
+}
+
+/// Whether a cache is as a part of coherence asks.
+pub fn cache_fits(part: Part, x: &Spot, home: &Home, nodes: u8, home_node: NodeId, node: NodeId) -> bool
+    ensures { (w : ℕ) (s : marks.Spot) → IsSpot w home.now.words x.now s → Decides result (CacheFits (which part) w nodes home_node (here_in home.now) node s) }
+{
+    match part {
+        Part::First => has_tag(x),
+        Part::Second => has_rest(x, nodes, home_node),
+        Part::Third => has_its_notes(x),
+        Part::Fourth => has_one_request(x, home, node),
+        Part::Fifth => stands_so(x, home, node),
+        Part::Sixth => has_copy(x, home),
+        Part::Seventh => true,
+    }
+}
+
+/// Whether the home has no message on a wire to itself, and deferred but its own faults.
+pub fn own_places(x: &Spot) -> bool
+    ensures { (w : ℕ) (ws : List ℕ) (s : marks.Spot) → IsSpot w ws x.now s → Decides result (OwnPlaces s) }
+{
+    x.ask.few.is_empty() && x.down.few.is_empty() && x.up.few.is_empty() && x.kept.faults
+}
+
+/// Whether it is not this home's copy alone that is whole, or there are none.
+fn is_none_if_whole(place: Place, few: Few) -> bool
+    ensures { (ns : List marks.Note) → IsFew few ns → Decides result (state_in place ≡ HomeRw → ns ≡ []) }
+{
+    match place {
+        Place::HomeRw => few.is_empty(),
+        _ => true,
+    }
+}
+
+/// Whether the home waits at most once, and not where its copy is whole.
+pub fn own_requests(x: &Spot, home: &Home) -> bool
+    ensures { (w : ℕ) (ws : List ℕ) (s : marks.Spot) → IsSpot w ws x.now s → Decides result (OwnRequests (here_in home.now) s) }
+{
+    let faults = x.kept.rd_fault.plus(x.kept.wr_fault);
+    both(
+        faults.plus(held_home(home.whose)).is_at_most_one(),
+        is_none_if_whole(home.place, x.kept.few),
+    )
+}

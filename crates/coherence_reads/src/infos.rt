@@ -1,0 +1,106 @@
+ghost use Rattle.std.specs.Prelude.{ℕ, ◌≡◌, ◌≤◌, ◌<◌, true, slice_get};
+ghost use Rattle.std.specs.Bool.{Decides};
+ghost use Rattle.tw_base.specs.NodeSets.{count, has};
+ghost use Rattle.block_spots.specs.Cases.{members};
+ghost use Rattle.block_spots.specs.Views.{int_of, value_at};
+ghost use Rattle.teapot_meaning.specs.Steps.{node_of, set_of};
+ghost use Rattle.coherence_inv.specs.Coherent.{Infos, IsCacheNode};
+ghost use Rattle.coherence_reads.specs.Seeing.{here_in};
+ghost use Rattle.coherence_reads.specs.Whose.{state_in};
+
+use crate::states::is_cache_node;
+use crate::{Home, is_nobody};
+use stache_check::Place;
+use tw_base::{NodeId, NodeSet, Value};
+
+fn info(infos: &[Value], at: usize) -> Value
+    ensures { result ≡ value_at infos.now at }
+{
+    if at < infos.len() {
+        infos[at]
+    } else {
+        Value::Int(0)
+    }
+}
+
+pub fn sharers(infos: &[Value]) -> NodeSet
+    ensures { result ≡ set_of (value_at infos.now 0) }
+{
+    match info(infos, 0) {
+        Value::Set(set) => set,
+        _ => NodeSet::empty(),
+    }
+}
+
+pub fn owner(infos: &[Value]) -> NodeId
+    ensures { result ≡ node_of (value_at infos.now 1) }
+{
+    match info(infos, 1) {
+        Value::Node(node) => node,
+        _ => NodeId::new(0).unwrap(),
+    }
+}
+
+pub fn acks(infos: &[Value]) -> u32
+    ensures { result ≡ int_of (value_at infos.now 2) }
+{
+    match info(infos, 2) {
+        Value::Int(number) => number,
+        _ => 0,
+    }
+}
+
+fn fits(set: NodeSet, nodes: u8, home: NodeId, node: NodeId) -> bool
+    ensures { Decides result (has set node ≡ true → IsCacheNode nodes home node) }
+{
+    if set.has(node) {
+        is_cache_node(nodes, home, node)
+    } else {
+        true
+    }
+}
+
+/// Whether each member is a cache of a block of this home.
+fn are_caches(set: NodeSet, nodes: u8, home: NodeId) -> bool
+    ensures { Decides result ((k : ℕ) → has set k ≡ true → IsCacheNode nodes home k) }
+{
+    let _eight = set.has(home);
+    for number in 0..8 {
+        let node = NodeId::new(number).unwrap();
+        if !fits(set, nodes, home, node) {
+            return false;
+        }
+    }
+    true
+}
+
+fn has_members(set: NodeSet) -> bool
+    ensures { Decides result (1 ≤ count set) }
+{
+    set.count() >= 1
+}
+
+fn are_sharers(set: NodeSet, nodes: u8, home: NodeId) -> bool
+    requires { nodes ≤ 8 }
+    ensures { Decides result (((k : ℕ) → has set k ≡ true → IsCacheNode nodes home k) × (1 ≤ members nodes (has set))) }
+{
+    if !are_caches(set, nodes, home) {
+        return false;
+    }
+    has_members(set)
+}
+
+/// Whether the sharers, the owner and the count of a home are as its state asks.
+pub fn infos_fit(x: &Home, nodes: u8, home: NodeId) -> bool
+    requires { nodes ≤ 8 }
+    ensures { Decides result (Infos nodes home (state_in x.now.place) (here_in x.now)) }
+{
+    match x.place {
+        Place::HomeRw => is_nobody(x.sharers),
+        Place::HomeRo => are_sharers(x.sharers, nodes, home),
+        Place::HomeAcks => is_nobody(x.sharers) && x.acks >= 1,
+        Place::HomeExcl => is_nobody(x.sharers) && is_cache_node(nodes, home, x.owner),
+        Place::HomePut => is_nobody(x.sharers) && is_cache_node(nodes, home, x.owner),
+        _ => false,
+    }
+}
