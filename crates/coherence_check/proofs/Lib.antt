@@ -1,2 +1,4 @@
+pub mod Deciding
 pub mod Loops
 pub mod Saying
+pub mod Owing

@@ -1,2 +1,4 @@
 pub mod Nodes
 pub mod Said
+pub mod Waits
+pub mod Owing

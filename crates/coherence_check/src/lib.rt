@@ -2,8 +2,11 @@
 #![tactic(auto)]
 
 mod each;
+mod node;
+mod owed;
 mod reading;
 mod spot;
+mod waits;
 mod wire;
 
 pub use each::caches_fit;

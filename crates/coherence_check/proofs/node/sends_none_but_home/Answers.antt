@@ -1,0 +1,13 @@
+use Rattle.std.proofs.Common.{ℕ, ◌<◌, ◌≢◌, subst}
+use borrow.Author.Count.{below_more}
+use Rattle.dsm_model.specs.Globals.{setup_of, world_of}
+use Rattle.dsm_runs.specs.Setups.{home_of}
+use Rattle.coherence_reads.specs.Seeing.{which}
+use Rattle.coherence_check.specs.Nodes.{NodeAt, SendsNone}
+use Rattle.coherence_check.proofs.Loops.{some_is}
+use Rattle.coherence_check.proofs.node.sends_none_but_home.Goals as goal
+
+pub loop-number-preserved : goal.loop-number-preserved
+loop-number-preserved c =
+    let P : ℕ → Type 0 = λ i. i ≢ home_of (setup_of c.args.g.now) c.args.block → SendsNone (setup_of c.args.g.now) (world_of c.args.g.now) c.args.block c.args.from i in
+    below_more P c.loop-number.number c.loop-number.invariant (subst P (some_is _ _ _ _ c.new.ensures c.unwrap-node.ensures) (c.sends_none.ensures.0 (cc)))
