@@ -1,6 +1,8 @@
 -- Tests joined.
 use Rattle.std.proofs.Common.{◌≡◌, Bool, true, false, not, ◌&&◌, ◌||◌, refl, sym, ◌∙◌}
 use Rattle.std.specs.Bool.{Decides}
+use Rattle.tw_base.specs.declared.message.Chan.{Chan}
+use Rattle.tw_base.specs.declared.message.Chan.TheVariants.{Zero, One}
 use Rattle.coherence_reads.proofs.Lists.{both_so}
 
 implied : (a b : Bool) (P Q : Type 0) → Decides a P → Decides b Q → Decides (not a || b) (P → Q)
@@ -17,3 +19,7 @@ not_so false P h = (λ e p. let k = h.1 p in absurd cc, λ f. refl)
 
 pub waits_so : (a m x r : Bool) (P M X : Type 0) → Decides a P → Decides m M → Decides x X → r ≡ not a || (m && x) → Decides r (P → M × X)
 waits_so a m x r P M X h k l e = implies_so a (m && x) r P (M × X) h (both_so m x (m && x) M X k l refl) e
+
+pub on_both : (P : Chan → Type 0) → P Zero → P One → (k : Chan) → P k
+on_both P a b Zero = a
+on_both P a b One = b

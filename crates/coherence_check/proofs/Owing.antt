@@ -1,11 +1,12 @@
 -- One more message that may be owed.
-use Rattle.std.proofs.Common.{◌≡◌, ◌+◌, ℕ, List, [], ◌∷◌, ◌++◌, map, Bool, Some, slice_get, refl, ap, sym, ◌∙◌, take, arith}
+use Rattle.std.proofs.Common.{◌≡◌, ◌+◌, ℕ, List, [], ◌∷◌, ◌++◌, map, Bool, true, false, Some, slice_get, refl, ap, sym, ◌∙◌, take, arith}
 use Rattle.std.proofs.lemmas.List.{map-append, take_more}
 use Rattle.std.proofs.lemmas.Option.{get_or_from_slice_get, slice_get_within}
 use Rattle.std.proofs.lemmas.List.Elements.{filter-append}
 use Rattle.tw_base.specs.Lists.{how_many}
 use Rattle.tw_base.specs.declared.message.Message.{Message}
-use Rattle.block_spots.specs.Notes.{Note, notes}
+use Rattle.block_spots.specs.Cases.{Message as Seen}
+use Rattle.block_spots.specs.Notes.{Note, note, notes, of_block}
 use Rattle.block_spots.specs.Views.{seen_message}
 use Rattle.coherence_check.specs.Said.{said_to}
 
@@ -22,3 +23,14 @@ apart b k ms m g = rw (here ms k m g) (simp (map-append, filter-append))
 
 pub owed_more : (f : Note → ℕ) (b k : ℕ) (ms : List Message) (m : Message) → slice_get ms k ≡ Some m → how_many f (said_to b (k + 1) ms) ≡ how_many f (said_to b k ms) + how_many f (notes b (seen_message m ∷ []))
 owed_more f b k ms m g = ap (how_many f) (apart b k ms m g) ∙ joined f (said_to b k ms) (notes b (seen_message m ∷ []))
+
+pub owed_none : (f : Note → ℕ) (b : ℕ) (m : Seen) → of_block b m ≡ false → how_many f (notes b (m ∷ [])) ≡ 0
+unfolding notes
+owed_none f b m e = simp e
+
+one_alone : (f : Note → ℕ) (x : Note) → how_many f (x ∷ []) ≡ f x
+one_alone f x = omega arith
+
+pub owed_one : (f : Note → ℕ) (b : ℕ) (m : Seen) → of_block b m ≡ true → how_many f (notes b (m ∷ [])) ≡ f (note m)
+unfolding notes
+owed_one f b m e = simp e (one_alone f (note m))

@@ -2,3 +2,4 @@ pub mod Nodes
 pub mod Said
 pub mod Waits
 pub mod Owing
+pub mod Breaches

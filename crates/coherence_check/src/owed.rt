@@ -1,6 +1,6 @@
 ghost use Rattle.std.specs.Prelude.{ℕ, ◌≡◌, ◌≤◌, ◌<◌, ◌+◌, ◌*◌, ◌^◌, [], ◌∷◌, map};
 ghost use Rattle.std.specs.Bool.{Decides};
-ghost use Rattle.tw_base.specs.Lists.{how_many, one_if, sum_below};
+ghost use Rattle.tw_base.specs.Lists.{how_many, sum_below};
 ghost use Rattle.block_spots.specs.Notes.{notes, owes};
 ghost use Rattle.block_spots.specs.Views.{seen_message};
 ghost use Rattle.coherence_inv.specs.Parts.{spots_seen};
@@ -11,28 +11,32 @@ ghost use Rattle.coherence_check.specs.Owing.{AcksFit, owing};
 
 use crate::reading::{home, nodes};
 use crate::spot::home_at;
+use crate::wire::is_of;
 use coherence_reads::{Note, note_of};
 use dsm_model::Global;
 use stache_check::Place;
 use tw_base::{BlockId, Chan, Message, NodeId};
 
-fn is_counted(note: &Note, inv: bool) -> bool
-    ensures { one_if result ≡ owing inv (note_in note.now) }
+/// 1 for an INV, or an ACK, 0 for another note.
+fn note_owed(note: &Note, inv: bool) -> u64
+    ensures value { result ≡ owing inv (note_in note.now) }
+    ensures most { result ≤ 1 }
 {
     match *note {
-        Note::Inv => inv,
-        Note::Ack => !inv,
-        _ => false,
+        Note::Inv => u64::from(inv),
+        Note::Ack => u64::from(!inv),
+        _ => 0,
     }
 }
 
-fn is_owed(m: &Message, block: BlockId, inv: bool) -> bool
-    ensures { one_if result ≡ how_many (owing inv) (notes block (seen_message m.now ∷ [])) }
+fn message_owed(m: &Message, block: BlockId, inv: bool) -> u64
+    ensures value { result ≡ how_many (owing inv) (notes block (seen_message m.now ∷ [])) }
+    ensures most { result ≤ 1 }
 {
-    if m.block != block {
-        return false;
+    if !is_of(m, block) {
+        return 0;
     }
-    is_counted(&note_of(m), inv)
+    note_owed(&note_of(m), inv)
 }
 
 /// How many INVs, or ACKs, of a block are on a wire of channel 1.
@@ -44,7 +48,7 @@ fn count_on(g: &Global, from: NodeId, to: NodeId, block: BlockId, inv: bool) -> 
     let mut count = 0;
     for k in 0..g.held(from, to, Chan::One) {
         let m = g.message(from, to, Chan::One, k).unwrap();
-        count += u64::from(is_owed(m, block, inv));
+        count += message_owed(m, block, inv);
     }
     count
 }

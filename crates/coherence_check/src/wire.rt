@@ -11,7 +11,7 @@ use coherence_reads::{Summary, note_of};
 use dsm_model::Global;
 use tw_base::{BlockId, Chan, Data, Message, NodeId};
 
-fn is_of(m: &Message, block: BlockId) -> bool
+pub fn is_of(m: &Message, block: BlockId) -> bool
     ensures { result ≡ of_block block (seen_message m.now) }
 {
     m.block == block

@@ -1,0 +1,20 @@
+use Rattle.std.proofs.Common.{◌≡◌, ◌≢◌, ◌≤◌, ◌<◌, ℕ, [], List, map, sym, subst, ap, ◌∙◌}
+use Rattle.std.specs.Bool.{Decides}
+use Rattle.block_spots.specs.Cases.{Here}
+use Rattle.dsm_model.specs.Globals.{setup_of, world_of}
+use Rattle.dsm_runs.specs.Setups.{home_of}
+use Rattle.coherence_inv.specs.Parts.{home_seen, seen, spots_seen}
+use Rattle.coherence_reads.proofs.Lists.{both_so}
+use Rattle.coherence_check.proofs.Deciding.{implies_so}
+use Rattle.block_spots.specs.Notes.{kept_notes}
+use Rattle.block_spots.specs.Views.{seen_waiting}
+use Rattle.dsm_runs.specs.declared.mode.Waiting.{Waiting}
+use Rattle.coherence_check.proofs.parts.has_no_strangers.Goals as goal
+
+pub returns : goal.returns
+returns c =
+    let r = c.are_none_from.result in
+    let b = c.args.block in
+    let w = world_of c.args.g.now in
+    subst (λ (n : ℕ). Decides r ((j : ℕ) → n ≤ j → kept_notes b j (map seen_waiting (w.locals (home_of (setup_of c.args.g.now) b)).deferred) ≡ [])) c.nodes.ensures.value
+    (subst (λ (ws : List Waiting). Decides r ((j : ℕ) → c.nodes.result ≤ j → kept_notes b j (map seen_waiting ws) ≡ [])) (c.deferred.ensures ∙ ap (λ (k : ℕ). (w.locals k).deferred) c.home.ensures.value) c.are_none_from.ensures)

@@ -1,0 +1,18 @@
+use Rattle.std.proofs.Common.{◌≡◌, ◌≢◌, ◌≤◌, ◌<◌, ℕ, [], List, map, sym, subst, ap, ◌∙◌}
+use Rattle.std.specs.Bool.{Decides}
+use Rattle.block_spots.specs.Cases.{Here}
+use Rattle.dsm_model.specs.Globals.{setup_of, world_of}
+use Rattle.dsm_runs.specs.Setups.{home_of}
+use Rattle.coherence_inv.specs.Parts.{home_seen, seen, spots_seen}
+use Rattle.coherence_reads.proofs.Lists.{both_so}
+use Rattle.coherence_check.proofs.Deciding.{implies_so}
+use Rattle.coherence_inv.specs.Coherent.{Infos}
+use Rattle.coherence_check.proofs.parts.home_has_infos.Goals as goal
+
+pub returns : goal.returns
+returns c =
+    let r = c.infos_fit.result in
+    let x : Here = home_seen (setup_of c.args.g.now) (world_of c.args.g.now) c.args.block in
+    subst (λ (n : ℕ). Decides r (Infos n (home_of (setup_of c.args.g.now) c.args.block) x.state x)) c.nodes.ensures.value
+    (subst (λ (h : ℕ). Decides r (Infos c.nodes.result h x.state x)) c.home.ensures.value
+    (subst (λ (z : Here). Decides r (Infos c.nodes.result c.home.result z.state z)) c.home_at.ensures c.infos_fit.ensures))

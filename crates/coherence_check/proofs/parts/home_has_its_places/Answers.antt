@@ -1,0 +1,13 @@
+use Rattle.std.proofs.Common.{◌≡◌, ◌≢◌, ◌≤◌, ◌<◌, ℕ, [], List, map, sym, subst, ap, ◌∙◌}
+use Rattle.std.specs.Bool.{Decides}
+use Rattle.block_spots.specs.Cases.{Here}
+use Rattle.dsm_model.specs.Globals.{setup_of, world_of}
+use Rattle.dsm_runs.specs.Setups.{home_of}
+use Rattle.coherence_inv.specs.Parts.{home_seen, seen, spots_seen}
+use Rattle.coherence_reads.proofs.Lists.{both_so}
+use Rattle.coherence_check.proofs.Deciding.{implies_so}
+use Rattle.coherence_reads.specs.Seeing.{OwnPlaces}
+use Rattle.coherence_check.proofs.parts.home_has_its_places.Goals as goal
+
+pub returns : goal.returns
+returns c = subst (λ (h : ℕ). Decides c.own_places.result (OwnPlaces (spots_seen (setup_of c.args.g.now) (world_of c.args.g.now) c.args.block h))) c.home.ensures.value (c.own_places.ensures _ _ _ c.spot_at.ensures)
