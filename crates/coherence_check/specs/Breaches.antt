@@ -1,5 +1,5 @@
 -- Where a state is not coherent.
-use Rattle.std.specs.Prelude.{◌≡◌, ℕ, ◌<◌}
+use Rattle.std.specs.Prelude.{◌≡◌, ◌<◌}
 use Rattle.dsm_runs.specs.Setups.{Setup}
 use Rattle.dsm_runs.specs.Worlds.{World}
 use Rattle.coherence_inv.specs.Parts.{Which, IsFirstBreach, rank}

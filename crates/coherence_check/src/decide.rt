@@ -6,7 +6,7 @@ ghost use Rattle.stache_tree.specs.Tree.{IsStache};
 ghost use Rattle.coherence_reads.specs.Seeing.{which};
 ghost use Rattle.coherence_check.specs.Breaches.{Firstly, IsBroken};
 
-use crate::parts::holds;
+use crate::parts::part_holds;
 use crate::reading::blocks;
 use coherence_reads::Part;
 use dsm_model::{Global, Setup};
@@ -26,25 +26,25 @@ fn first_broken(g: &Global, stache: bool, block: BlockId) -> Option<Part>
     requires stache { Decides stache (IsStache (setup_of g.now).protocol) }
     ensures { MatchOption result (InParts (setup_of g.now) (world_of g.now) block) (λ p. Firstly (Holds (setup_of g.now) (world_of g.now) block) (which p)) }
 {
-    if !holds(g, stache, block, Part::First) {
+    if !part_holds(g, stache, block, Part::First) {
         return Some(Part::First);
     }
-    if !holds(g, stache, block, Part::Second) {
+    if !part_holds(g, stache, block, Part::Second) {
         return Some(Part::Second);
     }
-    if !holds(g, stache, block, Part::Third) {
+    if !part_holds(g, stache, block, Part::Third) {
         return Some(Part::Third);
     }
-    if !holds(g, stache, block, Part::Fourth) {
+    if !part_holds(g, stache, block, Part::Fourth) {
         return Some(Part::Fourth);
     }
-    if !holds(g, stache, block, Part::Fifth) {
+    if !part_holds(g, stache, block, Part::Fifth) {
         return Some(Part::Fifth);
     }
-    if !holds(g, stache, block, Part::Sixth) {
+    if !part_holds(g, stache, block, Part::Sixth) {
         return Some(Part::Sixth);
     }
-    if !holds(g, stache, block, Part::Seventh) {
+    if !part_holds(g, stache, block, Part::Seventh) {
         return Some(Part::Seventh);
     }
     None
@@ -72,4 +72,13 @@ pub fn coherent(s: &Setup, g: &Global) -> Result<(), Broken>
     ensures { MatchResult result (λ _. IsCoherent s.now (world_of g.now)) (λ b. IsBroken s.now (world_of g.now) b) }
 {
     decide(g, is_stache(s.protocol().protocol()))
+}
+
+/// Whether a part of coherence holds of a block.
+pub fn holds(g: &Global, block: BlockId, part: Part) -> bool
+    requires { block < (setup_of g.now).shape.blocks }
+    ensures { Decides result (Holds (setup_of g.now) (world_of g.now) block (which part)) }
+{
+    let stache = is_stache(g.setup().protocol().protocol());
+    part_holds(g, stache, block, part)
 }

@@ -11,4 +11,5 @@ mod spot;
 mod waits;
 mod wire;
 
-pub use decide::{Broken, coherent};
+pub use coherence_reads::Part;
+pub use decide::{Broken, coherent, holds};

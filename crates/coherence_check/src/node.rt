@@ -20,7 +20,8 @@ use crate::spot::home_at;
 use crate::waits::{Node, node_fits};
 use crate::wire::said;
 use coherence_reads::{
-    Part, are_none_from, held_home, is_literal, kept_of, left_fits, left_of, place_seen, rest_read, sharers,
+    Part, are_none_from, held_home, is_literal, kept_of, left_fits, left_of, place_seen, rest_read,
+    sharers,
 };
 use dsm_model::{Global, Local, Mode, Setup};
 use mini_asm::Next;
@@ -105,7 +106,9 @@ fn has_none(g: &Global, block: BlockId, node: NodeId) -> bool
     requires block { block < (setup_of g.now).shape.blocks }
     ensures { Decides result (HasNone (setup_of g.now) (world_of g.now) block node) }
 {
-    sends_none_but_home(g, block, node) && is_home_silent(g, block, node) && defers_none(g, block, node)
+    sends_none_but_home(g, block, node)
+        && is_home_silent(g, block, node)
+        && defers_none(g, block, node)
 }
 
 /// Whether a node that is not the home has nothing of the block but with the home.
@@ -147,7 +150,10 @@ fn may(setup: &Setup, me: NodeId, l: &Local) -> bool
     ensures { result ≡ seen_may setup.now (local_of setup.now me l.now) }
 {
     let shape = setup.shape();
-    l.failed.is_none() && l.instructions < shape.budget() && l.sent < shape.handler_budget() && l.clock < u64::MAX
+    l.failed.is_none()
+        && l.instructions < shape.budget()
+        && l.sent < shape.handler_budget()
+        && l.clock < u64::MAX
 }
 
 fn may_at(g: &Global, node: NodeId) -> bool
@@ -167,7 +173,11 @@ fn loads(setup: &Setup, next: Next, block: BlockId) -> bool
     ensures { Decides result (seen_next setup.now next ≡ Loads block) }
 {
     match next {
-        Next::Access { store: false, address, value: _ } => is_in(setup, address, block),
+        Next::Access {
+            store: false,
+            address,
+            value: _,
+        } => is_in(setup, address, block),
         _ => false,
     }
 }
@@ -176,7 +186,11 @@ fn stores(setup: &Setup, next: Next, block: BlockId) -> bool
     ensures { Decides result (seen_next setup.now next ≡ Stores block) }
 {
     match next {
-        Next::Access { store: true, address, value: _ } => is_in(setup, address, block),
+        Next::Access {
+            store: true,
+            address,
+            value: _,
+        } => is_in(setup, address, block),
         Next::Faa { address, added: _ } => is_in(setup, address, block),
         _ => false,
     }

@@ -16,8 +16,8 @@ use crate::reading::{deferred, home, nodes};
 use crate::spot::{home_at, spot_at};
 use crate::waits::{both, implies};
 use coherence_reads::{
-    Home, Part, are_eligible, are_none_from, infos_fit, is_home, is_settled, own_places, own_requests, rest_fits,
-    tag_of,
+    Home, Part, are_eligible, are_none_from, infos_fit, is_home, is_settled, own_places,
+    own_requests, rest_fits, tag_of,
 };
 use dsm_model::Global;
 use tw_base::BlockId;
@@ -137,7 +137,7 @@ fn all_eligible(g: &Global, block: BlockId) -> bool
 }
 
 /// Whether a part of coherence holds of a block, where it is known whether the protocol is Stache.
-pub fn holds(g: &Global, stache: bool, block: BlockId, part: Part) -> bool
+pub fn part_holds(g: &Global, stache: bool, block: BlockId, part: Part) -> bool
     requires block { block < (setup_of g.now).shape.blocks }
     requires stache { Decides stache (IsStache (setup_of g.now).protocol) }
     ensures { Decides result (Holds (setup_of g.now) (world_of g.now) block (which part)) }

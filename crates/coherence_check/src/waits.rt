@@ -124,13 +124,19 @@ fn own_write(x: &Node) -> bool
 fn own_held(x: &Node) -> bool
     ensures { (h i b : ℕ) (l : Local) → IsNode x.now h l i b → Decides result (i ≡ h → 1 ≤ held_home (l.blocks b).rest → (l.mode ≡ mode.Blocked b) × HeldFor (l.blocks b).state l.next b) }
 {
-    implies(x.own, waits(x, is_some(x.held), held_for(x.place, x.loads, x.stores)))
+    implies(
+        x.own,
+        waits(x, is_some(x.held), held_for(x.place, x.loads, x.stores)),
+    )
 }
 
 fn own_blocked(x: &Node) -> bool
     ensures { (h i b : ℕ) (l : Local) → IsNode x.now h l i b → Decides result (i ≡ h → l.mode ≡ mode.Blocked b → own_rd l i b + own_wr l i b + held_home (l.blocks b).rest ≡ 1) }
 {
-    implies(x.own, implies(x.blocked, x.rd_fault.plus(x.wr_fault).plus(x.held).is_one()))
+    implies(
+        x.own,
+        implies(x.blocked, x.rd_fault.plus(x.wr_fault).plus(x.held).is_one()),
+    )
 }
 
 fn woken_loads(x: &Node) -> bool

@@ -29,7 +29,14 @@ fn with_one(so_far: Summary, m: &Message, block: BlockId, count: u8, words: Data
 }
 
 /// What is on a wire of a block, whose home has these words.
-pub fn said(g: &Global, from: NodeId, to: NodeId, chan: Chan, block: BlockId, at_home: Data) -> Summary
+pub fn said(
+    g: &Global,
+    from: NodeId,
+    to: NodeId,
+    chan: Chan,
+    block: BlockId,
+    at_home: Data,
+) -> Summary
     requires { from < (setup_of g.now).shape.nodes }
     ensures { IsSummary (setup_of g.now).shape.words at_home result (notes block (map seen_message ((world_of g.now).wires from to chan))) }
 {

@@ -1,13 +1,12 @@
 -- Deferred messages, one by one.
-use Rattle.std.proofs.Common.{◌≡◌, ◌≢◌, ◌≤◌, ◌+◌, ◌<◌, ℕ, zero, suc, Bool, true, false, not, ◌&&◌, ◌||◌, nat_eq, nat_lt, List, [], ◌∷◌, ◌++◌, map, take, length, Option, Some, None, slice_get, refl, ap, sym, ◌∙◌, arith, rules}
+use Rattle.std.proofs.Common.{◌≡◌, ◌≤◌, ◌+◌, ℕ, Bool, true, false, List, [], ◌∷◌, ◌++◌, map, take, Some, slice_get, refl, ap, sym, ◌∙◌, arith, rules}
 use Rattle.std.proofs.lemmas.List.{append-nil, map-append, take_more}
 use Rattle.std.proofs.lemmas.Option.{get_or_from_slice_get, slice_get_within}
 use Rattle.std.proofs.lemmas.List.Elements.{filter-append}
 use Rattle.std.proofs.lemmas.Grind.{common_steps}
 use Rattle.std.specs.Bool.{Decides}
-use Rattle.std.specs.List.{filter, list_all}
-use Rattle.tw_base.specs.Lists.{Each}
-use Rattle.block_spots.specs.Notes.{Note, kept_notes, note, of_block_from}
+use Rattle.std.specs.List.{list_all}
+use Rattle.block_spots.specs.Notes.{kept_notes, note, of_block_from}
 use Rattle.block_spots.specs.Views.{seen_message, seen_waiting}
 use Rattle.coherence_inv.specs.Coherent.{AllEligible}
 use Rattle.dsm_runs.specs.declared.mode.Waiting.{Waiting}

@@ -1,5 +1,5 @@
 -- A block and its continuation with every line 0, part by part.
-use Rattle.std.proofs.Common.{◌≡◌, ◌≤◌, arith, ℕ, zero, suc, Bool, List, [], ◌∷◌, Option, Some, None, refl, ap, sym, ◌∙◌}
+use Rattle.std.proofs.Common.{◌≡◌, ◌≤◌, arith, ℕ, zero, suc, List, [], Option, Some, None, refl, ap, sym, ◌∙◌}
 use Rattle.std.specs.Prelude.{◌↔◌}
 use Rattle.tw_base.specs.declared.value.Data.{Data}
 use Rattle.tw_base.specs.declared.value.Value.{Value}
@@ -36,10 +36,10 @@ no_cont (Some k) e = absurd cc
 pub alone-parts : (s : StateVal) (n : ℕ) → (bare_val s ≡ alone n) ↔ (((out-StateVal s).state ≡ n) × ((out-StateVal s).args ≡ []) × ((out-StateVal s).cont ≡ None))
 alone-parts s n = (
   λ h. (
-      simp (state-out, out-roll-StateVal) at (ap (λ (z : StateVal). (out-StateVal z).state) h),
-      simp (state-out, out-roll-StateVal) at (ap (λ (z : StateVal). (out-StateVal z).args) h),
-      no_cont _ (simp (state-out, out-roll-StateVal) at (ap (λ (z : StateVal). (out-StateVal z).cont) h)),
-    ),
+    simp (state-out, out-roll-StateVal) at (ap (λ (z : StateVal). (out-StateVal z).state) h),
+    simp (state-out, out-roll-StateVal) at (ap (λ (z : StateVal). (out-StateVal z).args) h),
+    no_cont _ (simp (state-out, out-roll-StateVal) at (ap (λ (z : StateVal). (out-StateVal z).cont) h)),
+  ),
   λ h. sym (roll-out-StateVal (bare_val s)) ∙ ap roll-StateVal (state-out s) ∙ whole _ _ _ h.0 h.1 h.2,
 )
   where
@@ -52,11 +52,11 @@ pub cont-parts : (k : Cont) (c : Code) (vars : List Bound) (n : ℕ) →
     ((bare_all (out-Cont k).rest ≡ stmts_of c) × ((out-Cont k).vars ≡ vars) × ((out-Cont k).came ≡ None) × (bare_val (out-Cont k).saved ≡ alone n))
 cont-parts k c vars n = (
   λ h. (
-      simp (cont-out, out-roll-Cont) at (ap (λ (z : Cont). (out-Cont z).rest) h),
-      simp (cont-out, out-roll-Cont) at (ap (λ (z : Cont). (out-Cont z).vars) h),
-      simp (cont-out, out-roll-Cont) at (ap (λ (z : Cont). (out-Cont z).came) h),
-      simp (cont-out, out-roll-Cont) at (ap (λ (z : Cont). (out-Cont z).saved) h),
-    ),
+    simp (cont-out, out-roll-Cont) at (ap (λ (z : Cont). (out-Cont z).rest) h),
+    simp (cont-out, out-roll-Cont) at (ap (λ (z : Cont). (out-Cont z).vars) h),
+    simp (cont-out, out-roll-Cont) at (ap (λ (z : Cont). (out-Cont z).came) h),
+    simp (cont-out, out-roll-Cont) at (ap (λ (z : Cont). (out-Cont z).saved) h),
+  ),
   λ h. sym (roll-out-Cont (bare_cont k)) ∙ ap roll-Cont (cont-out k) ∙ whole _ _ _ _ h.0 h.1 h.2 h.3,
 )
   where
@@ -68,10 +68,10 @@ cont-parts k c vars n = (
 pub state-parts : (s : StateVal) (n : ℕ) (l : Option Later) → (bare_val s ≡ state_val n l) ↔ (((out-StateVal s).state ≡ n) × ((out-StateVal s).args ≡ []) × (opt bare_cont (out-StateVal s).cont ≡ cont_if l))
 state-parts s n l = (
   λ h. (
-      simp (state-out, out-roll-StateVal) at (ap (λ (z : StateVal). (out-StateVal z).state) h),
-      simp (state-out, out-roll-StateVal) at (ap (λ (z : StateVal). (out-StateVal z).args) h),
-      simp (state-out, out-roll-StateVal) at (ap (λ (z : StateVal). (out-StateVal z).cont) h),
-    ),
+    simp (state-out, out-roll-StateVal) at (ap (λ (z : StateVal). (out-StateVal z).state) h),
+    simp (state-out, out-roll-StateVal) at (ap (λ (z : StateVal). (out-StateVal z).args) h),
+    simp (state-out, out-roll-StateVal) at (ap (λ (z : StateVal). (out-StateVal z).cont) h),
+  ),
   λ h. sym (roll-out-StateVal (bare_val s)) ∙ ap roll-StateVal (state-out s) ∙ whole _ _ _ h.0 h.1 h.2,
 )
   where
@@ -96,4 +96,5 @@ pub past : (n : ℕ) → 10 ≤ n → number_of (state_numbered n) ≡ 5
 past n h = ap number_of (past_state n h)
 
 pub ruleset parts = (alone-parts, cont-parts)
+
 pub ruleset places = (state-parts, past)

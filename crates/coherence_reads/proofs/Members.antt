@@ -1,5 +1,5 @@
 -- How many members a set of nodes has below a bound.
-use Rattle.std.proofs.Common.{◌≡◌, ◌≢◌, ◌≤◌, ◌<◌, ℕ, zero, suc, Bool, true, false, List, [], ◌∷◌, length, Option, Some, None, slice_get, unwrap_or, refl, ap, sym, ◌∙◌, arith}
+use Rattle.std.proofs.Common.{◌≡◌, ◌≤◌, ◌<◌, ℕ, zero, suc, Bool, true, false, List, [], ◌∷◌, length, refl, ap, sym, arith}
 use native.Mathlib.Decide.{ℕ_discrete}
 use Rattle.tw_base.specs.Lists.{one_if, sum_below}
 use Rattle.tw_base.specs.NodeSets.{count, has}

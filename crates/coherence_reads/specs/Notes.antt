@@ -1,5 +1,5 @@
 -- What the decider keeps of the messages of a block in a list.
-use Rattle.std.specs.Prelude.{ℕ, ◌≡◌, ◌≤◌, Bool, List, [], ◌∷◌, length}
+use Rattle.std.specs.Prelude.{ℕ, ◌≡◌, ◌≤◌, List, [], ◌∷◌, length}
 use Rattle.std.specs.Bool.{Decides}
 use Rattle.tw_base.specs.Lists.{Each, how_many}
 use Rattle.block_spots.specs.Notes as marks

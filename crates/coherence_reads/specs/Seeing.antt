@@ -1,5 +1,5 @@
 -- What the decider reads off a cache, and off the home about it.
-use Rattle.std.specs.Prelude.{◌≡◌, ◌+◌, ◌≤◌, ℕ, Bool, List, []}
+use Rattle.std.specs.Prelude.{◌≡◌, ◌+◌, ◌≤◌, ℕ, List, []}
 use Rattle.std.specs.Bool.{Decides}
 use Rattle.tw_base.specs.Lists.{Each, how_many}
 use Rattle.tw_base.specs.NodeSets.{has}

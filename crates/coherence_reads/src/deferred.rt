@@ -19,7 +19,14 @@ fn is_of(waiting: &Waiting, block: BlockId, node: NodeId) -> bool
 }
 
 #[tactic(auto, using(crate::proofs::Deferring::keeping))]
-fn with_one(so_far: Summary, waiting: &Waiting, block: BlockId, node: NodeId, count: u8, words: Data) -> Summary
+fn with_one(
+    so_far: Summary,
+    waiting: &Waiting,
+    block: BlockId,
+    node: NodeId,
+    count: u8,
+    words: Data,
+) -> Summary
     ensures { (k : ℕ) (ws : List Held) → slice_get ws k ≡ Some waiting.now → IsSummary count words so_far (kept_to block node k ws) → IsSummary count words result (kept_to block node (k + 1) ws) }
 {
     if is_of(waiting, block, node) {
@@ -30,7 +37,13 @@ fn with_one(so_far: Summary, waiting: &Waiting, block: BlockId, node: NodeId, co
 }
 
 /// What a home deferred of a block from a node.
-pub fn kept_of(deferred: &[Waiting], block: BlockId, node: NodeId, count: u8, words: Data) -> Summary
+pub fn kept_of(
+    deferred: &[Waiting],
+    block: BlockId,
+    node: NodeId,
+    count: u8,
+    words: Data,
+) -> Summary
     ensures { IsSummary count words result (kept_notes block node (map seen_waiting deferred.now)) }
 {
     let mut summary = Summary::new();
@@ -49,7 +62,9 @@ fn none_from(waiting: &Waiting, block: BlockId, least: u8) -> bool
 fn all_none_from(deferred: &[Waiting], block: BlockId, least: u8) -> bool
     ensures { result ≡ list_all (is_none_from block least) deferred.now }
 {
-    deferred.iter().all(|waiting| none_from(waiting, block, least))
+    deferred
+        .iter()
+        .all(|waiting| none_from(waiting, block, least))
 }
 
 /// Whether none is of the block and from one of the nodes from this number on.

@@ -12,7 +12,9 @@ ghost use Rattle.coherence_reads.specs.Whose.{state_in};
 
 use crate::count::both;
 use crate::standing::stands;
-use crate::states::{held_home, held_ro, held_rw, is_cache, is_shared, one_request, rest_fits, tag_of};
+use crate::states::{
+    held_home, held_ro, held_rw, is_cache, is_shared, one_request, rest_fits, tag_of,
+};
 use crate::{Count, Few, Home, OfHome, Part, Seen, Spot};
 use stache_check::Place;
 use tw_base::{Data, NodeId};
@@ -21,7 +23,10 @@ use tw_base::{Data, NodeId};
 fn asks_ro(x: &Spot, home: &Home, node: NodeId) -> Count
     ensures { (w : ℕ) (ws : List ℕ) (s : marks.Spot) → IsSpot w ws x.now s → IsCount result (marks.gets_ro s + marks.held_ro (here_in home.now).rest node) }
 {
-    x.ask.get_ro.plus(x.kept.get_ro).plus(held_ro(home.whose, node))
+    x.ask
+        .get_ro
+        .plus(x.kept.get_ro)
+        .plus(held_ro(home.whose, node))
 }
 
 /// The GET_RWs of a cache on the way or deferred.
@@ -83,7 +88,11 @@ fn has_its_notes(x: &Spot) -> bool
 fn has_one_request(x: &Spot, home: &Home, node: NodeId) -> bool
     ensures { (w n h : ℕ) (ws : List ℕ) (s : marks.Spot) → IsSpot w ws x.now s → Decides result (CacheFits Fourth w n h (here_in home.now) node s) }
 {
-    one_request(x.place, asks_ro(x, home, node).plus(x.down.data_ro), asks_rw(x, home, node).plus(x.down.data_rw))
+    one_request(
+        x.place,
+        asks_ro(x, home, node).plus(x.down.data_ro),
+        asks_rw(x, home, node).plus(x.down.data_rw),
+    )
 }
 
 fn stands_so(x: &Spot, home: &Home, node: NodeId) -> bool
@@ -128,7 +137,14 @@ fn has_copy(x: &Spot, home: &Home) -> bool
 }
 
 /// Whether a cache is as a part of coherence asks.
-pub fn cache_fits(part: Part, x: &Spot, home: &Home, nodes: u8, home_node: NodeId, node: NodeId) -> bool
+pub fn cache_fits(
+    part: Part,
+    x: &Spot,
+    home: &Home,
+    nodes: u8,
+    home_node: NodeId,
+    node: NodeId,
+) -> bool
     ensures { (w : ℕ) (s : marks.Spot) → IsSpot w home.now.words x.now s → Decides result (CacheFits (which part) w nodes home_node (here_in home.now) node s) }
 {
     match part {

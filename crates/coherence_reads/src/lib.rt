@@ -28,8 +28,8 @@ pub use part::Part;
 pub use rest::is_rest;
 pub use standing::{OfHome, Seen, is_nobody, stands};
 pub use states::{
-    held_home, held_ro, held_rw, is_cache, is_cache_node, is_home, is_settled, is_shared, is_waiting, left_fits,
-    left_of, one_request, rest_fits, tag_of,
+    held_home, held_ro, held_rw, is_cache, is_cache_node, is_home, is_settled, is_shared,
+    is_waiting, left_fits, left_of, one_request, rest_fits, tag_of,
 };
 pub use summary::Summary;
 pub use views::{Home, Spot};

@@ -98,7 +98,10 @@ fn gives_back(place: Place, ro: Count, wr: Count, down: Few, up: Few) -> bool
     match (down, up) {
         (Few::Empty, Few::One(Note::Put(_))) => has_put(place, ro, wr),
         (Few::One(Note::Recall), Few::Empty) => matches!(place, Place::CacheRw),
-        (Few::Two(Note::DataRw(_), Note::Recall), Few::Empty) => matches!(place, Place::CacheWaitRw),
+        (Few::Two(Note::DataRw(_), Note::Recall), Few::Empty) => matches!(
+            place,
+            Place::CacheWaitRw
+        ),
         _ => false,
     }
 }
@@ -146,21 +149,9 @@ pub fn stands(home: Place, has: OfHome, x: &Seen) -> bool
 {
     match home {
         Place::HomeRw => is_apart(x),
-        Place::HomeRo => {
-            if has.member {
-                shares(x)
-            } else {
-                is_apart(x)
-            }
-        }
+        Place::HomeRo => { if has.member { shares(x) } else { is_apart(x) } }
         Place::HomeAcks => stands_acks(x, has.held_rw),
-        Place::HomeExcl => {
-            if has.owner {
-                is_owner(x)
-            } else {
-                is_apart(x)
-            }
-        }
+        Place::HomeExcl => { if has.owner { is_owner(x) } else { is_apart(x) } }
         Place::HomePut => {
             if has.owner {
                 stands_put(x, has.held_ro, has.held_rw)

@@ -1,4 +1,4 @@
-use Rattle.std.proofs.Common.{ℕ, ◌≡◌, ◌≤◌, [], List, map, arith, sym, subst}
+use Rattle.std.proofs.Common.{ℕ, ◌≡◌, ◌≤◌, [], List, map, arith, subst}
 use Rattle.std.specs.Bool.{Decides}
 use Rattle.block_spots.specs.Notes.{kept_notes}
 use Rattle.block_spots.specs.Views.{seen_waiting}

@@ -1,9 +1,8 @@
-use Rattle.std.proofs.Common.{ℕ, ◌<◌, ◌≢◌, subst}
+use Rattle.std.proofs.Common.{ℕ, ◌≢◌, subst}
 use borrow.Author.Count.{below_more}
 use Rattle.dsm_model.specs.Globals.{setup_of, world_of}
 use Rattle.dsm_runs.specs.Setups.{home_of}
-use Rattle.coherence_reads.specs.Seeing.{which}
-use Rattle.coherence_check.specs.Nodes.{NodeAt, SendsNone}
+use Rattle.coherence_check.specs.Nodes.{SendsNone}
 use Rattle.coherence_check.proofs.Loops.{some_is}
 use Rattle.coherence_check.proofs.node.sends_none_but_home.Goals as goal
 

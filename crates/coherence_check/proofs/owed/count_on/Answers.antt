@@ -1,4 +1,4 @@
-use Rattle.std.proofs.Common.{◌≡◌, ◌<◌, ◌≤◌, ◌+◌, ℕ, List, [], length, Option, Some, None, slice_get, rules, arith, ap, sym, ◌∙◌}
+use Rattle.std.proofs.Common.{◌≡◌, List, Some, None, slice_get, rules, arith, ap, sym, ◌∙◌}
 use Rattle.std.specs.Option.{IsSome, option_copied}
 use Rattle.tw_base.specs.Lists.{how_many}
 use Rattle.tw_base.specs.declared.message.Chan.TheVariants.{One}

@@ -1,4 +1,4 @@
-use Rattle.std.proofs.Common.{◌≡◌, ◌+◌, ℕ, map, ap, sym, ◌∙◌}
+use Rattle.std.proofs.Common.{◌≡◌, ◌+◌, ℕ, map, ap, ◌∙◌}
 use Rattle.tw_base.specs.Lists.{how_many}
 use Rattle.tw_base.specs.declared.message.Chan.TheVariants.{One}
 use Rattle.block_spots.specs.Notes.{is_ack, is_inv, notes}

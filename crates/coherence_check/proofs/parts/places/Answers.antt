@@ -1,11 +1,7 @@
-use Rattle.std.proofs.Common.{◌≡◌, ◌≢◌, ◌≤◌, ◌<◌, ℕ, [], List, map, sym, subst, ap, ◌∙◌}
-use Rattle.std.specs.Bool.{Decides}
-use Rattle.block_spots.specs.Cases.{Here}
+use Rattle.std.proofs.Common.{◌≡◌, []}
 use Rattle.dsm_model.specs.Globals.{setup_of, world_of}
-use Rattle.dsm_runs.specs.Setups.{home_of}
-use Rattle.coherence_inv.specs.Parts.{home_seen, seen, spots_seen}
+use Rattle.coherence_inv.specs.Parts.{seen}
 use Rattle.coherence_reads.proofs.Lists.{both_so}
-use Rattle.coherence_check.proofs.Deciding.{implies_so}
 use Rattle.tw_base.specs.declared.message.Chan.{Chan}
 use Rattle.tw_base.specs.declared.message.Chan.TheVariants.{Zero, One}
 use Rattle.block_spots.specs.Notes.{notes}
@@ -28,13 +24,13 @@ returns c =
             },
           ),
       λ a. all.1 (
-          a.1.strangers,
+        a.1.strangers,
+        (
+          a.0.own,
           (
-            a.0.own,
-            (
-              λ f lf df. (λ t lt dt. (a.1.between f t Zero lf lt df dt, a.1.between f t One lf lt df dt), a.1.from_home f lf df, λ j. a.1.deferred f j lf df),
-              a.0.caches,
-            ),
+            λ f lf df. (λ t lt dt. (a.1.between f t Zero lf lt df dt, a.1.between f t One lf lt df dt), a.1.from_home f lf df, λ j. a.1.deferred f j lf df),
+            a.0.caches,
           ),
         ),
+      ),
     )

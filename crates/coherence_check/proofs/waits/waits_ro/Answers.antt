@@ -1,10 +1,6 @@
-use Rattle.std.proofs.Common.{◌≡◌, ℕ, true, false, sym, subst}
+use Rattle.std.proofs.Common.{◌≡◌, subst}
 use Rattle.std.specs.Bool.{Decides}
-use Rattle.tw_base.specs.declared.value.Tag.{Tag}
-use Rattle.block_tags.specs.Copies.{permits}
-use Rattle.block_spots.specs.Cases.{CacheWaitRo, CacheWaitRw, State}
-use Rattle.coherence_inv.specs.Coherent.{HeldFor, IsWaiting}
-use Rattle.coherence_reads.proofs.Lists.{both_so}
+use Rattle.block_spots.specs.Cases.{CacheWaitRo, State}
 use Rattle.coherence_check.proofs.Deciding.{implies_so, not_so, waits_so}
 use Rattle.coherence_check.proofs.waits.waits_ro.Goals as goal
 

@@ -1,4 +1,4 @@
-use Rattle.std.proofs.Common.{◌≡◌, ◌<◌, ℕ, List, length, Option, Some, None, slice_get, rules, arith, sym, ◌∙◌, subst}
+use Rattle.std.proofs.Common.{◌≡◌, List, Some, None, slice_get, rules, arith, sym, subst}
 use Rattle.std.specs.Option.{IsSome, option_copied}
 use Rattle.block_spots.specs.Notes.{Note}
 use Rattle.coherence_reads.specs.Notes.{IsSummary}

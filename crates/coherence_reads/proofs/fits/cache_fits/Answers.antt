@@ -1,4 +1,4 @@
-use Rattle.std.proofs.Common.{ℕ, Bool, List, sym, subst}
+use Rattle.std.proofs.Common.{sym, subst}
 use Rattle.std.specs.Bool.{Decides}
 use Rattle.coherence_reads.specs.Seeing.{CacheFits, here_in, which}
 use Rattle.coherence_reads.specs.declared.part.Part.{Part}

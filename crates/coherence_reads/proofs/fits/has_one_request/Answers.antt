@@ -1,4 +1,4 @@
-use Rattle.std.proofs.Common.{ℕ, ◌+◌, sym, subst}
+use Rattle.std.proofs.Common.{◌+◌, sym, subst}
 use Rattle.std.specs.Bool.{Decides}
 use Rattle.tw_base.specs.Lists.{how_many}
 use Rattle.block_spots.specs.Cases.{State}

@@ -1,4 +1,4 @@
-use Rattle.std.proofs.Common.{◌≡◌, ◌<◌, ℕ, refl, arith}
+use Rattle.std.proofs.Common.{◌<◌, refl, arith}
 use Rattle.coherence_reads.proofs.Members.{member_below}
 use Rattle.coherence_reads.proofs.infos.are_caches.Goals as goal
 

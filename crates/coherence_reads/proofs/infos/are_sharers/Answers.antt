@@ -1,4 +1,4 @@
-use Rattle.std.proofs.Common.{◌≡◌, ◌≤◌, ℕ, true, sym, subst}
+use Rattle.std.proofs.Common.{◌≡◌, ◌≤◌, ℕ, sym, subst}
 use Rattle.tw_base.specs.NodeSets.{count, has}
 use Rattle.block_spots.specs.Cases.{members}
 use Rattle.coherence_reads.proofs.Members.{members_are_all}

@@ -1,5 +1,4 @@
-use Rattle.std.proofs.Common.{◌≡◌, true, false, subst, sym, ◌∙◌, rules}
-use Rattle.std.proofs.lemmas.Grind.{common_steps}
+use Rattle.std.proofs.Common.{◌≡◌, false, subst, sym, ◌∙◌, rules}
 use Rattle.tw_base.specs.NodeSets.{empty, has}
 use Rattle.coherence_reads.proofs.Sets.{nobody_has, nobody_is}
 use Rattle.coherence_reads.proofs.standing.is_nobody.Goals as goal

@@ -1,4 +1,4 @@
-use Rattle.std.proofs.Common.{◌≡◌, ℕ, ◌+◌, List, [], ◌∷◌, ◌++◌, subst, sym}
+use Rattle.std.proofs.Common.{ℕ, ◌+◌, List, [], ◌∷◌, ◌++◌, subst, sym}
 use Rattle.tw_base.specs.Lists.{how_many}
 use Rattle.block_spots.specs.Notes as marks
 use Rattle.coherence_inv.specs.Coherent.{HasWords, IsFault, IsGet}
