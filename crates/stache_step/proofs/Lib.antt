@@ -1,0 +1,4 @@
+pub mod Meant
+pub mod Only
+pub mod Seen
+pub mod Within
