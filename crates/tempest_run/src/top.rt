@@ -9,8 +9,8 @@ use crate::status::Status;
 use std::alloc::Global;
 use tw_io::{Sink, Source};
 
-/// All that the program does: reads the source to its end, runs what the words ask for, and writes the answer to the
-/// sink, or one line that says what was refused.
+/// All that the program does: reads the source to its end where what the words ask for has an input, and writes the answer
+/// to the sink, or one line that says what was refused.
 pub fn tempest_plain<S: Source, K: Sink>(
     alloc: Global,
     words: &[String],
