@@ -12,7 +12,7 @@ use Rattle.coherence_inv.specs.Potential.{RunsAreCounted, faults_in, handled_in,
 use Rattle.coherence_inv.specs.Parts.{home_seen, seen}
 use Rattle.coherence_inv.proofs.Keeping.{events_keep, starts_kept}
 use Rattle.coherence_inv.proofs.Seen.{events_pay}
-use Rattle.coherence_inv.proofs.Sums.{sum_below_same}
+use Rattle.block_spots.proofs.Sums.{sum_below_same}
 use Rattle.coherence_inv.proofs.Totals.{sum_below_const}
 use Rattle.coherence_inv.proofs.Views.{notes_nil, kept_notes_nil}
 use Rattle.coherence_inv.proofs.Weights.{as_total, weight_of}

@@ -1,4 +1,3 @@
-pub mod Sums
 pub mod Counts
 pub mod Views
 pub mod Caches

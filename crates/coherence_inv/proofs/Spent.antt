@@ -14,7 +14,7 @@ use Rattle.coherence_inv.specs.Ends.{Unspent}
 use Rattle.coherence_inv.specs.Potential.{IsCounted, faults_in, handled_in, is_fault_event, is_handler_event, sent_in}
 use Rattle.dsm_runs.specs.Invariants.{Bounded, UpTo}
 use Rattle.dsm_runs.proofs.Bounds.{few_events, run_bounded, sum_bound, sum_zero}
-use Rattle.coherence_inv.proofs.Sums.{sum_below_at, sum_below_one}
+use Rattle.block_spots.proofs.Sums.{sum_below_at, sum_below_one}
 
 -- ---- one event
 
