@@ -1,0 +1,13 @@
+//! The parts of a node that hold messages and entries: its log, what it keeps of the wires to it, and what waits to be
+//! handed out. Only making room takes memory.
+#![tactic(auto)]
+
+mod fronts;
+mod log;
+mod out;
+mod places;
+
+pub use fronts::Fronts;
+pub use log::Log;
+pub use out::Out;
+pub use places::place;
