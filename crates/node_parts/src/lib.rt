@@ -4,10 +4,12 @@
 
 mod fronts;
 mod log;
+mod masks;
 mod out;
 mod places;
 
 pub use fronts::Fronts;
 pub use log::Log;
+pub use masks::tests_word;
 pub use out::Out;
 pub use places::place;
