@@ -1,5 +1,5 @@
 -- What a contract sees of a node that runs compiled handlers.
-use Rattle.std.specs.Prelude.{◌≡◌, ℕ, ◌+◌, ◌*◌, Bool, if◌then◌else◌, List, [], ◌∷◌, ◌++◌, Option, Some, None, is_some, not, ◌&&◌, map, slice_index, replicate, ◌-◌}
+use Rattle.std.specs.Prelude.{ℕ, Bool, List, [], Option, None, not, ◌&&◌, map, slice_index, nat_eq}
 use Rattle.std.specs.List.{filter, slice_index_or}
 use Rattle.tw_base.specs.declared.entry.End.{End}
 use Rattle.tw_base.specs.declared.entry.Entry.{Entry}
@@ -7,10 +7,9 @@ use Rattle.tw_base.specs.declared.entry.Event.{Event}
 use Rattle.tw_base.specs.declared.entry.Event.TheVariants as event
 use Rattle.tw_base.specs.declared.message.Chan.{Chan}
 use Rattle.tw_base.specs.declared.message.Message.{Message}
-use Rattle.tw_base.specs.declared.value.Value.{Value}
-use Rattle.tw_base.specs.declared.value.Value.TheVariants.{Int}
 use Rattle.block_tags.specs.Copies.{Copies}
 use Rattle.mini_asm.specs.declared.cpu.Cpu.{Cpu}
+use Rattle.teapot_meaning.specs.Does.{zero_of}
 use Rattle.teapot_meaning.specs.declared.state.Here.{Here}
 use Rattle.cont_store.specs.Store.{Store}
 use Rattle.handler_code.specs.declared.code.Code.{Code}
@@ -23,7 +22,7 @@ use Rattle.dsm_runs.specs.declared.mode.Waiting.{Waiting}
 use Rattle.dsm_runs.specs.Locals.{Local}
 use Rattle.dsm_runs.specs.Messages.{on_wire, place}
 use Rattle.dsm_runs.specs.Schedules.{node_events}
-use Rattle.dsm_runs.specs.Setups.{Setup, first_here}
+use Rattle.dsm_runs.specs.Setups.{Setup, first_here, home_of, start_line, start_state}
 use Rattle.dsm_runs.specs.Tests.{has_eligible, is_early, may_handle, may_instruct}
 use Rattle.node_meaning.specs.Tallies.{Tally}
 
@@ -84,12 +83,17 @@ onto me t c ms = filter (on_wire me t c) ms
 
 -- ---- blocks
 
--- the cell of a block that a node does not have
-abbrev pub no_cell : Cell
-no_cell = record { state = 0; args = replicate 4 (Int 0); cont = None; infos = replicate 8 (Int 0) }
+-- the cell of a block that node i does not have: as at the start
+abbrev pub no_cell : Setup → ℕ → ℕ → Cell
+no_cell s i block = record {
+  state = start_state s (start_line s (nat_eq (home_of s block) i));
+  args = [];
+  cont = None;
+  infos = map (λ info. zero_of info.ty) s.protocol.infos;
+}
 
 abbrev pub cell_at : Shown → ℕ → Cell
-cell_at n b = slice_index_or n.cells b no_cell
+cell_at n b = slice_index_or n.cells b (no_cell n.setup n.me b)
 
 -- what the node keeps of a block
 abbrev pub keeping : Shown → ℕ → Keeping

@@ -1,7 +1,7 @@
 -- A node on compiled handlers, and the course of the model that it stands for. The course is not a function of the node: the
 -- rests of suspended handlers, and what was taken and sent, are known to exist and no more. So each clause on an event
 -- speaks of every course that the node stood for.
-use Rattle.std.specs.Prelude.{◌≡◌, ◌≢◌, ℕ, ◌+◌, ◌<◌, ◌≤◌, ◌^◌, if◌then◌else◌, List, [], ◌∷◌, ◌++◌, Option, Some, None, length, option_to_list, Bool, false}
+use Rattle.std.specs.Prelude.{◌≡◌, ℕ, ◌+◌, ◌<◌, ◌≤◌, ◌^◌, if◌then◌else◌, List, [], ◌∷◌, ◌++◌, Option, Some, None, length, option_to_list}
 use Rattle.tw_base.specs.Lists.{Each}
 use Rattle.tw_base.specs.declared.entry.Entry.{Entry}
 use Rattle.tw_base.specs.declared.entry.Event.{Event}
@@ -66,7 +66,7 @@ pub record IsWell (n : Shown) : Type 0 where
   pub deferred : Each (λ w. IsMessageWithin n.setup.shape.nodes w.message) n.parts.deferred
   pub few_sent : n.parts.sent < 2 ^ 32
   pub few_posted : (t : ℕ) (ch : Chan) → posted_at n t ch ≤ n.parts.sent
-  pub few_accepted : (f : ℕ) (ch : Chan) → accepted_at n f ch ≤ n.parts.handled + 1
+  pub few_accepted : (f : ℕ) (ch : Chan) → accepted_at n f ch ≤ n.parts.handled + length (option_to_list (front_at n f ch))
 
 -- ---- an event
 

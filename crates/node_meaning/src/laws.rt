@@ -1,0 +1,25 @@
+ghost use Rattle.node_meaning.specs.HandlerEvents.{DeliveriesAreMade, FaultsAreMade, RedeliveriesAreMade};
+ghost use Rattle.node_meaning.specs.Laws.{LowerLaws};
+
+use handler_vm::chains_stay_apart;
+use teapot_sends::handlers_send_few;
+use value_nodes::messages_stay_within;
+
+/// What the crates below say of handlers, chains and nodes.
+fn lower_laws()
+    ensures { LowerLaws }
+{
+    messages_stay_within();
+    chains_stay_apart();
+    handlers_send_few();
+}
+
+/// Where a node did its part of a refused access, a redelivery or a delivery, it made an event of the model, from each
+/// course that it stood for, and it is as nodes are.
+pub fn handler_events_are_made()
+    ensures faults { FaultsAreMade }
+    ensures redeliveries { RedeliveriesAreMade }
+    ensures deliveries { DeliveriesAreMade }
+{
+    lower_laws();
+}
