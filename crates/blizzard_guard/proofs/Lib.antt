@@ -1,1 +1,4 @@
 pub mod Ops
+pub mod Standing
+pub mod Looking
+pub mod Finishing

@@ -35,7 +35,7 @@ drop-places_from b (i ∷ is) (suc k) h =
     past (replicate len b) (places_from (b + 1) is) len (first_op is k) (length-replicate len b)
     ∙ drop-places_from (b + 1) is k (omega arith) ∙ ap (λ n. places_from n (drop k is)) e
 
-first_place : (b : ℕ) (p : List Instr) → get_or (places_from b p) 0 0 ≡ b
+pub first_place : (b : ℕ) (p : List Instr) → get_or (places_from b p) 0 0 ≡ b
 first_place b [] = refl
 first_place b (i ∷ is) = rw (add-one (length (check_of i))) refl
 
