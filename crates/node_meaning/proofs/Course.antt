@@ -33,7 +33,6 @@ use Rattle.dsm_runs.specs.Replays.{Course}
 use Rattle.dsm_runs.specs.Setups.{home_of}
 use Rattle.dsm_runs.proofs.Lists.{length-numbered}
 use Rattle.dsm_runs.proofs.Turns.{changed, changed_here, changed_other}
-use Rattle.node_meaning.specs.Handling.{Handled, kept_on}
 use Rattle.node_meaning.specs.Laws.{LowerLaws}
 use Rattle.node_meaning.specs.Nodes.{Parts, Shown, cell_at, keeping, onto, posted_at, tally_of, with_blocks}
 use Rattle.node_meaning.specs.Sending.{stamped}
@@ -43,6 +42,7 @@ use Rattle.node_meaning.proofs.Blocks.{other_tag, other_words}
 use Rattle.node_meaning.proofs.Cells.{cell_is, taken_long}
 use Rattle.node_meaning.proofs.Posting.{more_of, next_after, onto_wire, stamped_out}
 use Rattle.node_meaning.proofs.Ran.{other_cell, other_chain, posted_more, sent_postable, stay_apart}
+use Rattle.node_meaning.proofs.HandledParts.{Handled, kept_on}
 
 pub kept_on_is : (old new : Shown) (found : Parts) (m : Message) (entry : Entry) → Handled old new found m entry → new ≡ kept_on old new
 kept_on_is old new found m entry h = λ j. record new { setup = h.same_setup j; code = h.same_code j; me = h.same_me j; accepted = h.same_accepted j }

@@ -19,7 +19,6 @@ use Rattle.dsm_runs.proofs.Besides.{log_goes_on_beside}
 use Rattle.dsm_runs.proofs.Lists.{Each-append, Each-filter, Each-numbered, nat_eq_refl}
 use Rattle.dsm_runs.proofs.RunStates.{events_keep}
 use Rattle.dsm_runs.proofs.Stamps.{each_both, passes}
-use Rattle.node_meaning.specs.Handling.{Handled, kept_on}
 use Rattle.node_meaning.specs.Laws.{LowerLaws}
 use Rattle.node_meaning.specs.Nodes.{Parts, Shown, accepted_at, front_at, tally_of}
 use Rattle.node_meaning.specs.Stands.{GoesOn, IsFit, IsWell, StandsFor}
@@ -27,6 +26,7 @@ use Rattle.node_meaning.specs.Tallies.{Counts, CountsIf, first_tally, handled_me
 use Rattle.node_meaning.proofs.Course.{blocks_stand, counted, local_after, more, sends, sent_numbers, sent_onto}
 use Rattle.node_meaning.proofs.Posting.{on_it}
 use Rattle.node_meaning.proofs.Ran.{sent_fit}
+use Rattle.node_meaning.proofs.HandledParts.{Handled, kept_on}
 
 -- ---- what is taken
 

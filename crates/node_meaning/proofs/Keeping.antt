@@ -19,7 +19,6 @@ use Rattle.dsm_runs.specs.Messages.{on_wire, place}
 use Rattle.dsm_runs.specs.Replays.{Course}
 use Rattle.dsm_runs.specs.Worlds.{takes_from}
 use Rattle.dsm_runs.proofs.Lists.{Each-append}
-use Rattle.node_meaning.specs.Handling.{Handled, kept_on}
 use Rattle.node_meaning.specs.Laws.{LowerLaws}
 use Rattle.node_meaning.specs.Nodes.{Parts, Shown, accepted_at, front_at, posted_at, tally_of}
 use Rattle.node_meaning.specs.Sending.{stamped}
@@ -28,6 +27,7 @@ use Rattle.node_meaning.proofs.Blocks.{written_whole}
 use Rattle.node_meaning.proofs.Course.{cell_left, ended, few_sent, full, low, meant}
 use Rattle.node_meaning.proofs.Posting.{each_more, length-filter_le, length-posted_all, more_of, next_after}
 use Rattle.node_meaning.proofs.Ran.{cells_within, chains_within, posted_more, sent_postable, stay_apart, waits_more}
+use Rattle.node_meaning.proofs.HandledParts.{Handled, kept_on}
 
 -- ---- what is deferred
 

@@ -1,8 +1,10 @@
 pub mod Posting
 pub mod Blocks
 pub mod Cells
+pub mod HandledParts
 pub mod Ran
 pub mod Course
 pub mod Going
 pub mod Keeping
 pub mod Made
+pub mod Ready

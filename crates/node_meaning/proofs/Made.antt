@@ -1,7 +1,9 @@
 -- Refused accesses, redeliveries and deliveries are events of the model.
-use Rattle.std.proofs.Common.{◌≡◌, ℕ, ◌+◌, ◌<◌, ◌≤◌, Bool, true, false, not, ◌&&◌, ◌||◌, nat_eq, List, [], ◌∷◌, ◌++◌, Option, Some, None, refl, ap, sym, ◌∙◌, subst, arith, eqb-true}
-use Rattle.std.specs.Prelude.{find}
+use Rattle.std.proofs.Common.{get_or-set_same, get_or-set_other, ◌≡◌, ℕ, ◌+◌, ◌<◌, ◌≤◌, Bool, true, false, not, ◌&&◌, ◌||◌, nat_eq, List, [], ◌∷◌, ◌++◌, Option, Some, None, refl, ap, sym, ◌∙◌, subst, arith, eqb-true}
+use Rattle.std.specs.Prelude.{find, if◌then◌else◌, length, slice_set}
+use Rattle.std.specs.List.{slice_index_or}
 use Rattle.std.specs.Option.{option_map}
+use Rattle.std.proofs.Math.ListN.{length-set}
 use Rattle.std.proofs.lemmas.Bool.Decides.{Decides-ltb}
 use Rattle.tw_base.specs.Lists.{Each}
 use Rattle.tw_base.specs.Shape.{handler_budget_of}
@@ -22,16 +24,16 @@ use Rattle.dsm_runs.specs.declared.mode.Waiting.{Waiting}
 use Rattle.dsm_runs.specs.Events.{Acts, IsRefused, latest}
 use Rattle.dsm_runs.specs.Invariants.{IsDeferredAt}
 use Rattle.dsm_runs.specs.Locals.{IsFirst, IsStale, Local, MayHandle, MayInstruct, last_stamp}
-use Rattle.dsm_runs.specs.Messages.{chan_eq, fault}
+use Rattle.dsm_runs.specs.Messages.{chan_eq, fault, place}
 use Rattle.dsm_runs.specs.Replays.{Course}
 use Rattle.dsm_runs.specs.Setups.{Setup, asked}
 use Rattle.dsm_runs.specs.Tests.{has_eligible, is_early, may_handle, may_instruct}
 use Rattle.dsm_runs.specs.Worlds.{event_at, event_of, takes_from}
-use Rattle.dsm_runs.proofs.Lists.{and_left, and_right, chan_eq-true}
+use Rattle.dsm_runs.proofs.Lists.{and_left, and_right, chan_eq-true, chan_eq_refl, nat_eq_refl}
 use Rattle.dsm_runs.proofs.RunStates.{arrived, first_waits}
 use Rattle.dsm_runs.proofs.Testing.{may_handle_decides, may_instruct_decides}
 use Rattle.node_meaning.specs.HandlerEvents.{DeliveriesAreMade, FaultsAreMade, HasMade, IsDeliveryAt, IsFaultAt, IsRedeliveryAt, RedeliveriesAreMade, blocked, one_handled, without_first}
-use Rattle.node_meaning.specs.Handling.{Handled, kept_on}
+use Rattle.node_meaning.specs.Handling.{HandlerLeaves}
 use Rattle.node_meaning.specs.Laws.{LowerLaws}
 use Rattle.node_meaning.specs.Nodes.{Parts, Shown, front_at, tested}
 use Rattle.node_meaning.specs.Stands.{GoesOn, IsReplayed, IsWell, Makes, StandsFor}
@@ -39,7 +41,9 @@ use Rattle.node_meaning.specs.Tallies.{handled_message}
 use Rattle.node_meaning.proofs.Course.{handles, kept_on_is, local_after, more, sends}
 use Rattle.node_meaning.proofs.Going.{fit_sends, goes_on}
 use Rattle.node_meaning.proofs.Keeping.{well_after}
+use Rattle.node_meaning.proofs.Posting.{place_is, place_low}
 use Rattle.node_meaning.proofs.Ran.{waits_more}
+use Rattle.node_meaning.proofs.HandledParts.{Handled, kept_on}
 
 -- ---- tests
 
@@ -68,7 +72,7 @@ rest_of : (P : Waiting → Type 0) (w : Waiting) (earlier later : List Waiting) 
 rest_of P w [] later h = (h.0, h.1)
 rest_of P w (x ∷ xs) later h = let k = rest_of P w xs later h.1 in (k.0, (h.0, k.1))
 
-fault_is : (s : Setup) (store : Bool) (b i : ℕ) → IsMessageOf s.protocol s.shape.words (fault store b i)
+pub fault_is : (s : Setup) (store : Bool) (b i : ℕ) → IsMessageOf s.protocol s.shape.words (fault store b i)
 fault_is s true b i = record { known = refl; types = refl; carried = λ h. absurd cc; plain = λ h. refl }
 fault_is s false b i = record { known = refl; types = refl; carried = λ h. absurd cc; plain = λ h. refl }
 
@@ -99,6 +103,57 @@ makes_of old left found m entry front e ms h tells waits goes = record {
 
 untaken : (a b : Act) (f : ℕ) (ch : Chan) (Q : Type 0) → a ≡ b → takes_from b f ch ≡ false → takes_from a f ch ≡ true → Q
 untaken a b f ch Q e none some = absurd (let bad : true ≡ false = sym some ∙ ap (λ x. takes_from x f ch) e ∙ none in cc)
+
+-- ---- from what a handler found
+
+handled_from : (old found new : Shown) (parts : Parts) (fronts : List (Option Message)) (m : Message) (entry : Entry) → found ≡ record old { parts = parts; fronts = fronts } → HandlerLeaves found new m entry
+    → ((f : ℕ) (ch : Chan) → slice_index_or fronts (place f ch) None ≡ (if takes_from entry.act f ch then None else front_at old f ch)) → length fronts ≡ length old.fronts → Handled old new parts m entry
+handled_from old found new parts fronts m entry is leaves left long = go (subst (λ (x : Shown). HandlerLeaves x new m entry) is leaves)
+  where
+    go : HandlerLeaves (record old { parts = parts; fronts = fronts }) new m entry → Handled old new parts m entry
+    go h = record {
+      sent = h.sent;
+      ran = h.ran;
+      runs = record { meant = h.runs.meant; stop = h.runs.stop; stops = h.runs.stops; leaves = h.runs.leaves; chain = h.runs.chain; others = h.runs.others };
+      infos = h.infos;
+      cells = h.cells;
+      other_cells = h.other_cells;
+      outbox = h.outbox;
+      parts = h.parts;
+      ops = h.ops;
+      records = h.records;
+      node = h.node;
+      count = h.count;
+      after = h.after;
+      log = h.log;
+      fronts = λ f ch. ap (λ (xs : List (Option Message)). slice_index_or xs (place f ch) None) h.fronts ∙ left f ch;
+      all_fronts = ap length h.fronts ∙ long;
+      same_setup = h.same_setup;
+      same_code = h.same_code;
+      same_me = h.same_me;
+      same_accepted = h.same_accepted;
+    }
+
+kept_if : (b : Bool) (kept : Option Message) → b ≡ false → (if b then None else kept) ≡ kept
+kept_if true kept e = absurd cc
+kept_if false kept e = refl
+
+none_by : (a b : Act) (f : ℕ) (ch : Chan) → a ≡ b → takes_from b f ch ≡ false → takes_from a f ch ≡ false
+none_by a b f ch e none = ap (λ x. takes_from x f ch) e ∙ none
+
+same_wire : (from : ℕ) (ch : Chan) → (nat_eq from from && chan_eq ch ch) ≡ true
+same_wire from ch = rw (nat_eq_refl from) (chan_eq_refl ch)
+
+-- the wire whose front was taken has none, and the others have theirs
+front_left : (fronts : List (Option Message)) (from f : ℕ) (ch c : Chan) (a : Act) → place from ch < length fronts → takes_from a f c ≡ (nat_eq f from && chan_eq c ch)
+    → slice_index_or (slice_set fronts (place from ch) None) (place f c) None ≡ (if takes_from a f c then None else slice_index_or fronts (place f c) None)
+front_left fronts from f ch c a low takes = rw takes (go (nat_eq f from && chan_eq c ch) refl)
+  where
+    go : (b : Bool) → (nat_eq f from && chan_eq c ch) ≡ b → slice_index_or (slice_set fronts (place from ch) None) (place f c) None ≡ (if b then None else slice_index_or fronts (place f c) None)
+    go true on =
+        let same : place f c ≡ place from ch = ap (λ k. place k c) (eqb-true f from (and_left (nat_eq f from) (chan_eq c ch) on)) ∙ ap (λ d. place from d) (chan_eq-true c ch (and_right (nat_eq f from) (chan_eq c ch) on)) in
+        ap (λ k. slice_index_or (slice_set fronts (place from ch) None) k None) same ∙ get_or-set_same fronts (place from ch) None None low
+    go false off = get_or-set_other fronts (place from ch) (place f c) None None (λ e. let same = place_is f from c ch e in let on : (nat_eq f from && chan_eq c ch) ≡ true = ap (λ k. nat_eq k from && chan_eq c ch) same.0 ∙ ap (λ d. nat_eq from from && chan_eq d ch) same.1 ∙ same_wire from ch in let bad : true ≡ false = sym on ∙ off in absurd cc)
 
 -- ---- a refused access
 
@@ -171,7 +226,8 @@ module _ (lower : LowerLaws) (old left : Shown) (store : Bool) (block : ℕ) (en
       }
 
 pub faults_are_made : LowerLaws → FaultsAreMade
-faults_are_made lower old new store block entry well replayed at h =
+faults_are_made lower old found new store block entry well replayed at is leaves =
+    let h = handled_from old found new (blocked old.parts block) old.fronts (fault store block old.me) entry is leaves (λ f ch. sym (kept_if (takes_from entry.act f ch) (front_at old f ch) (none_by entry.act (act.Fault store block) f ch at.act refl))) refl in
     made_there old new (blocked old.parts block) (fault store block old.me) entry None (event.Instr old.me) h (λ k. fault_made lower old new store block entry well replayed at k)
 
 -- ---- a redelivery
@@ -249,7 +305,8 @@ module _ (lower : LowerLaws) (old left : Shown) (m : Message) (earlier later : L
   }
 
 pub redeliveries_are_made : LowerLaws → RedeliveriesAreMade
-redeliveries_are_made lower old new m earlier later entry well replayed at h =
+redeliveries_are_made lower old found new m earlier later entry well replayed at is leaves =
+    let h = handled_from old found new (without_first old.parts (earlier ++ later)) old.fronts m entry is leaves (λ f ch. sym (kept_if (takes_from entry.act f ch) (front_at old f ch) (none_by entry.act (act.Redelivered m.kind m.block m.from) f ch at.act refl))) refl in
     made_there old new (without_first old.parts (earlier ++ later)) m entry None (event.Redeliver old.me) h (λ k. r_made lower old new m earlier later entry well replayed at k)
 
 -- ---- a delivery
@@ -340,5 +397,9 @@ module _ (lower : LowerLaws) (old left : Shown) (from : ℕ) (ch : Chan) (m : Me
   }
 
 pub deliveries_are_made : LowerLaws → DeliveriesAreMade
-deliveries_are_made lower old new from ch m entry well replayed at h =
+deliveries_are_made lower old found new from ch m entry well replayed at is leaves =
+    let h =
+    handled_from old found new (one_handled old.parts) (slice_set old.fronts (place from ch) None) m entry is leaves
+    (λ f c. front_left old.fronts from f ch c entry.act (omega (arith, well.all_fronts, place_low from ch (omega (arith, at.sender, well.setup.limits.nodes)))) (ap (λ a. takes_from a f c) at.act))
+    (length-set old.fronts (place from ch) None) in
     made_there old new (one_handled old.parts) m entry (front_at old from ch) (event.Deliver old.me from ch) h (λ k. d_made lower old new from ch m entry well replayed at k)

@@ -37,7 +37,7 @@ length-posted_all (m ∷ ms) posted = length-posted_all ms (with_posted posted m
 
 -- ---- places of wires
 
-place_is : (t u : ℕ) (c d : Chan) → place t c ≡ place u d → (t ≡ u) × (c ≡ d)
+pub place_is : (t u : ℕ) (c d : Chan) → place t c ≡ place u d → (t ≡ u) × (c ≡ d)
 place_is t u Zero Zero e = (omega arith, refl)
 place_is t u One One e = (omega arith, refl)
 place_is t u Zero One e = absurd (omega arith)

@@ -17,13 +17,14 @@ use Rattle.handler_vm.specs.Sending.{IsUnsent, out_of}
 use Rattle.value_nodes.specs.Within.{IsCellWithin, IsMessageWithin, IsSavedWithin, IsSendWithin, IsStoppedWithin}
 use Rattle.dsm_runs.specs.Invariants.{IsDeferredAt, IsPosted}
 use Rattle.dsm_runs.specs.Setups.{Setup, home_of}
-use Rattle.node_meaning.specs.Handling.{Handled, kept_on, outbox_of}
+use Rattle.node_meaning.specs.Handling.{outbox_of}
 use Rattle.node_meaning.specs.Laws.{LowerLaws}
 use Rattle.node_meaning.specs.Nodes.{Parts, Shown, cell_at}
 use Rattle.node_meaning.specs.Sending.{Outbox, stamped}
 use Rattle.node_meaning.specs.Stands.{IsFit, IsWell}
 use Rattle.node_meaning.proofs.Cells.{widened_within}
 use Rattle.node_meaning.proofs.Posting.{IsPostable, more_of, numbers, posted_all, waits}
+use Rattle.node_meaning.proofs.HandledParts.{Handled, kept_on}
 
 -- ---- what is sent
 

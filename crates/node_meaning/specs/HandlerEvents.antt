@@ -1,5 +1,5 @@
 -- The three kinds of event in which a handler runs, by what their handler finds of a node.
-use Rattle.std.specs.Prelude.{◌≡◌, ℕ, ◌+◌, ◌<◌, max, Bool, true, List, ◌++◌, Option, Some, None}
+use Rattle.std.specs.Prelude.{◌≡◌, ℕ, ◌+◌, ◌<◌, max, slice_set, Bool, true, List, ◌++◌, Option, Some, None}
 use Rattle.tw_base.specs.declared.entry.Act.TheVariants as act
 use Rattle.tw_base.specs.declared.entry.Entry.{Entry}
 use Rattle.tw_base.specs.declared.entry.Event.{Event}
@@ -7,15 +7,41 @@ use Rattle.tw_base.specs.declared.entry.Event.TheVariants as event
 use Rattle.tw_base.specs.declared.message.Chan.{Chan}
 use Rattle.tw_base.specs.declared.message.Message.{Message}
 use Rattle.block_tags.specs.Copies.{tag_of}
+use Rattle.handler_vm.specs.declared.cell.Ran.{Ran}
 use Rattle.dsm_runs.specs.declared.mode.Mode.TheVariants as mode
 use Rattle.dsm_runs.specs.declared.mode.Waiting.{Waiting}
 use Rattle.dsm_runs.specs.Events.{IsRefused}
 use Rattle.dsm_runs.specs.Locals.{IsFirst}
-use Rattle.dsm_runs.specs.Messages.{fault}
+use Rattle.dsm_runs.specs.Messages.{fault, place}
 use Rattle.dsm_runs.specs.Setups.{asked}
-use Rattle.node_meaning.specs.Handling.{Handled}
+use Rattle.node_meaning.specs.Handling.{HandlerLeaves, IsBounded, IsReadyFor, RanFor}
 use Rattle.node_meaning.specs.Nodes.{Parts, Shown, front_at, test_of}
 use Rattle.node_meaning.specs.Stands.{IsReplayed, IsWell, Makes}
+
+-- ---- before the handler
+
+-- A node is ready for the handler of a refused access, of its first eligible message, and of a message kept of a wire.
+abbrev pub ReadyForFaults : Type 0
+ReadyForFaults =
+    (n : Shown) (store : Bool) (block : ℕ) →
+    IsWell n → IsReplayed n → block < n.setup.shape.blocks → IsReadyFor n (fault store block n.me)
+
+abbrev pub ReadyForFirsts : Type 0
+ReadyForFirsts =
+    (n : Shown) (m : Message) (earlier later : List Waiting) →
+    IsWell n → IsReplayed n → IsFirst m earlier later n.parts.deferred → IsReadyFor n m
+
+abbrev pub ReadyForFronts : Type 0
+ReadyForFronts =
+    (n : Shown) (from : ℕ) (ch : Chan) (m : Message) →
+    IsWell n → IsReplayed n → front_at n from ch ≡ Some m → IsReadyFor n m
+
+abbrev pub RunsAreBounded : Type 0
+RunsAreBounded =
+    (found new : Shown) (m : Message) (sent : List Message) (ran : Ran) →
+    IsReadyFor found m → RanFor found new m sent ran → IsBounded sent ran
+
+-- ---- the event
 
 -- an event was made, and the node is as nodes are
 pub record HasMade (old new : Shown) (front : Option Message) (e : Event) : Type 0 where
@@ -38,11 +64,12 @@ pub record IsFaultAt (old : Shown) (store : Bool) (block : ℕ) (entry : Entry) 
 
 abbrev pub FaultsAreMade : Type 0
 FaultsAreMade =
-    (old new : Shown) (store : Bool) (block : ℕ) (entry : Entry) →
+    (old found new : Shown) (store : Bool) (block : ℕ) (entry : Entry) →
     IsWell old →
     IsReplayed old →
     IsFaultAt old store block entry →
-    Handled old new (blocked old.parts block) (fault store block old.me) entry →
+    found ≡ record old { parts = blocked old.parts block } →
+    HandlerLeaves found new (fault store block old.me) entry →
     HasMade old new None (event.Instr old.me)
 
 -- ---- a redelivery
@@ -59,11 +86,12 @@ pub record IsRedeliveryAt (old : Shown) (m : Message) (earlier later : List Wait
 
 abbrev pub RedeliveriesAreMade : Type 0
 RedeliveriesAreMade =
-    (old new : Shown) (m : Message) (earlier later : List Waiting) (entry : Entry) →
+    (old found new : Shown) (m : Message) (earlier later : List Waiting) (entry : Entry) →
     IsWell old →
     IsReplayed old →
     IsRedeliveryAt old m earlier later entry →
-    Handled old new (without_first old.parts (earlier ++ later)) m entry →
+    found ≡ record old { parts = without_first old.parts (earlier ++ later) } →
+    HandlerLeaves found new m entry →
     HasMade old new None (event.Redeliver old.me)
 
 -- ---- a delivery
@@ -80,9 +108,10 @@ pub record IsDeliveryAt (old : Shown) (from : ℕ) (ch : Chan) (m : Message) (en
 
 abbrev pub DeliveriesAreMade : Type 0
 DeliveriesAreMade =
-    (old new : Shown) (from : ℕ) (ch : Chan) (m : Message) (entry : Entry) →
+    (old found new : Shown) (from : ℕ) (ch : Chan) (m : Message) (entry : Entry) →
     IsWell old →
     IsReplayed old →
     IsDeliveryAt old from ch m entry →
-    Handled old new (one_handled old.parts) m entry →
+    found ≡ record old { parts = one_handled old.parts; fronts = slice_set old.fronts (place from ch) None } →
+    HandlerLeaves found new m entry →
     HasMade old new (front_at old from ch) (event.Deliver old.me from ch)

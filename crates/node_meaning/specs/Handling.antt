@@ -1,12 +1,14 @@
 -- An event of a node in which a handler runs: what the node's calls leave, part by part.
-use Rattle.std.specs.Prelude.{◌≡◌, ◌≢◌, ℕ, ◌+◌, if◌then◌else◌, List, [], ◌∷◌, ◌++◌, Some, None, length}
+use Rattle.std.specs.Prelude.{true, ◌<◌, ◌≤◌, ◌≡◌, ◌≢◌, ℕ, ◌+◌, if◌then◌else◌, List, [], ◌∷◌, ◌++◌, Some, None, length}
 use Rattle.tw_base.specs.declared.entry.After.{After}
 use Rattle.tw_base.specs.declared.entry.Entry.{Entry}
 use Rattle.tw_base.specs.declared.message.Chan.{Chan}
 use Rattle.tw_base.specs.declared.message.Message.{Message}
 use Rattle.block_tags.specs.Copies.{tag_of}
 use Rattle.teapot_meaning.specs.Does.{Does}
-use Rattle.teapot_meaning.specs.Fits.{Fits}
+use Rattle.teapot_tree.specs.Rules.{IsAccepted}
+use Rattle.teapot_meaning.specs.Fits.{Fits, IsMessageOf}
+use Rattle.teapot_meaning.specs.declared.state.Kept.TheVariants.{Eligible}
 use Rattle.teapot_meaning.specs.declared.state.Ended.{Ended}
 use Rattle.teapot_meaning.specs.declared.state.Here.{Here}
 use Rattle.handler_code.specs.Machine.{Stopped}
@@ -57,29 +59,41 @@ pub record RanFor (old new : Shown) (m : Message) (sent : List Message) (ran : R
   pub chain : IsChain old.copies.shape.words new.conts (cell_at new m.block).cont
   pub others : KeepsOthers old.conts new.conts (cell_at old m.block).cont (cell_at new m.block).cont
 
--- what the node shows, with what no event changes as it was before
-abbrev pub kept_on : Shown → Shown → Shown
-kept_on old new = record new { setup = old.setup; code = old.code; me = old.me; accepted = old.accepted }
+-- A node as a handler may find it: the message is one of the protocol, for a block of the node that stands for one that
+-- fits.
+pub record IsReadyFor (n : Shown) (m : Message) : Type 0 where
+  pub accepted : IsAccepted n.setup.protocol
+  pub message : IsMessageOf n.setup.protocol n.setup.shape.words m
+  pub block : m.block < n.setup.shape.blocks
+  pub here : Here
+  pub is_block : IsBlockOf n.me (home_of n.setup m.block) m.block here
+  pub fits : Fits n.setup.protocol here
+  pub full : length here.words ≡ n.setup.shape.words
+  pub stands : BlockStands n.setup.protocol n.code (keeping n m.block) here
 
--- The event of the entry leaves `new`, where a handler ran for the message, and found these parts of the node.
-pub record Handled (old new : Shown) (found : Parts) (m : Message) (entry : Entry) : Type 0 where
+-- a run sends few messages, and one that leaves its message eligible makes those of its block eligible
+pub record IsBounded (sent : List Message) (ran : Ran) : Type 0 where
+  pub few : length sent ≤ 288
+  pub freed : ran.kept ≡ Eligible → ran.freed ≡ true
+
+-- The event of the entry leaves `new`, where a handler ran for the message at the node as `found` shows it.
+pub record HandlerLeaves (found new : Shown) (m : Message) (entry : Entry) : Type 0 where
   pub sent : List Message
   pub ran : Ran
-  pub runs : RanFor old new m sent ran
-  pub infos : length (cell_at new m.block).infos ≡ length (cell_at old m.block).infos
-  pub cells : length new.cells ≡ length old.cells
-  pub other_cells : (b : ℕ) → b ≢ m.block → cell_at new b ≡ cell_at old b
-  pub outbox : outbox_of new ≡ post_all entry.stamp sent (outbox_of old)
-  pub parts : new.parts ≡ parts_after found m ran entry.stamp (length sent)
-  pub ops : new.ops ≡ old.ops + ran.ops
-  pub records : new.records ≡ old.records + ran.records
-  pub node : entry.node ≡ old.me
+  pub runs : RanFor found new m sent ran
+  pub infos : length (cell_at new m.block).infos ≡ length (cell_at found m.block).infos
+  pub cells : length new.cells ≡ length found.cells
+  pub other_cells : (b : ℕ) → b ≢ m.block → cell_at new b ≡ cell_at found b
+  pub outbox : outbox_of new ≡ post_all entry.stamp sent (outbox_of found)
+  pub parts : new.parts ≡ parts_after found.parts m ran entry.stamp (length sent)
+  pub ops : new.ops ≡ found.ops + ran.ops
+  pub records : new.records ≡ found.records + ran.records
+  pub node : entry.node ≡ found.me
   pub count : entry.sends ≡ length sent
   pub after : entry.after ≡ Some (after_at new m.block ran)
-  pub log : new.log ≡ old.log ++ entry ∷ []
-  pub fronts : (f : ℕ) (ch : Chan) → front_at new f ch ≡ (if takes_from entry.act f ch then None else front_at old f ch)
-  pub all_fronts : length new.fronts ≡ length old.fronts
-  pub same_setup : new.setup ≡ old.setup
-  pub same_code : new.code ≡ old.code
-  pub same_me : new.me ≡ old.me
-  pub same_accepted : new.accepted ≡ old.accepted
+  pub log : new.log ≡ found.log ++ entry ∷ []
+  pub fronts : new.fronts ≡ found.fronts
+  pub same_setup : new.setup ≡ found.setup
+  pub same_code : new.code ≡ found.code
+  pub same_me : new.me ≡ found.me
+  pub same_accepted : new.accepted ≡ found.accepted

@@ -8,6 +8,7 @@ use Rattle.teapot_meaning.specs.Fits.{Fits, IsMessageOf}
 use Rattle.teapot_meaning.specs.declared.state.Ended.{Ended}
 use Rattle.teapot_meaning.specs.declared.state.Here.{Here}
 use Rattle.handler_vm.specs.Apart.{ChainsStayApart}
+use Rattle.message_facts.specs.Facts.{EligibleMessagesAreFreed}
 use Rattle.value_nodes.specs.Within.{MessagesStayWithin}
 
 -- a handler sends at most 288 messages
@@ -20,3 +21,4 @@ pub record LowerLaws : Type 0 where
   pub within : MessagesStayWithin
   pub apart : ChainsStayApart
   pub few : HandlersSendFew
+  pub eligible : EligibleMessagesAreFreed

@@ -6,4 +6,4 @@
 
 mod laws;
 
-pub use laws::handler_events_are_made;
+pub use laws::{handler_events_are_made, nodes_are_ready_for_handlers};
