@@ -1,0 +1,6 @@
+pub mod Keeping
+pub mod Sparing
+pub mod Starting
+pub mod Instructing
+pub mod Performing
+pub mod Testing
