@@ -1,0 +1,4 @@
+mod Lists
+mod Queueing
+mod Keeping
+mod Calling
