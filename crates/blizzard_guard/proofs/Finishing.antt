@@ -21,7 +21,8 @@ first_zero : (p : List Instr) → first_op p 0 ≡ 0
 first_zero [] = refl
 first_zero (i ∷ is) = refl
 
-next_first : (p : List Instr) (k : ℕ) (i : Instr) → slice_get p k ≡ Some i → first_op p (suc k) ≡ first_op p k + (length (check_of i) + 1)
+next_first : (p : List Instr) (k : ℕ) (i : Instr) → slice_get p k ≡ Some i
+    → first_op p (suc k) ≡ first_op p k + (length (check_of i) + 1)
 next_first [] k i e = cc
 next_first (x ∷ is) zero i e =
     let same : x ≡ i = cc in
@@ -40,7 +41,8 @@ few_ops (i ∷ is) (suc k) = omega (arith, one_check i, few_ops is k)
 -- there is room behind an op
 pub room : (g : Guarded) (cpu : Cpu) → IsOnGuarded g cpu → cpu.place + 2 < 2 ^ 32
 room g cpu on =
-    let few : first_op (plain_of g) (plain_place g cpu.place) ≤ 2 * length (plain_of g) = few_ops (plain_of g) (plain_place g cpu.place) in
+    let few : first_op (plain_of g) (plain_place g cpu.place) ≤ 2 * length (plain_of g) = few_ops (plain_of g)
+    (plain_place g cpu.place) in
     let short : length (plain_of g) ≤ 4096 = on.valid.short in
     let there : cpu.place ≡ first_op (plain_of g) (plain_place g cpu.place) = on.there in
     omega arith
@@ -67,9 +69,12 @@ passed f false to at after e = refl
 -- the place after it, where its own is behind its check
 place_moved : (f : ℕ → ℕ) (i : Instr) (regs : List ℕ) (k place : ℕ) → place ≡ f k + length (check_of i) → f (k + 1) ≡ place + 1
     → place_after (moved f i) regs place ≡ f (place_after i regs k)
-place_moved f (Beq a b to) regs k place here next = taken f (slice_index regs a == slice_index regs b) to (k + 1) (place + 1) next
-place_moved f (Bne a b to) regs k place here next = passed f (slice_index regs a == slice_index regs b) to (k + 1) (place + 1) next
-place_moved f (Blt a b to) regs k place here next = taken f (nat_lt (slice_index regs a) (slice_index regs b)) to (k + 1) (place + 1) next
+place_moved f (Beq a b to) regs k place here next =
+    taken f (slice_index regs a == slice_index regs b) to (k + 1) (place + 1) next
+place_moved f (Bne a b to) regs k place here next =
+    passed f (slice_index regs a == slice_index regs b) to (k + 1) (place + 1) next
+place_moved f (Blt a b to) regs k place here next =
+    taken f (nat_lt (slice_index regs a) (slice_index regs b)) to (k + 1) (place + 1) next
 place_moved f (Jmp to) regs k place here next = refl
 place_moved f Halt regs k place here next = here ∙ add-zero (f k)
 place_moved f _ regs k place here next = sym next
@@ -81,7 +86,8 @@ either_le false x y end h k = k
 after_within : (i : Instr) (regs : List ℕ) (k end : ℕ) → GoesWithin end i → k < end → place_after i regs k ≤ end
 after_within (Beq a b to) regs k end w h = either_le (slice_index regs a == slice_index regs b) to (k + 1) end w (omega arith)
 after_within (Bne a b to) regs k end w h = either_le (slice_index regs a == slice_index regs b) (k + 1) to end (omega arith) w
-after_within (Blt a b to) regs k end w h = either_le (nat_lt (slice_index regs a) (slice_index regs b)) to (k + 1) end w (omega arith)
+after_within (Blt a b to) regs k end w h =
+    either_le (nat_lt (slice_index regs a) (slice_index regs b)) to (k + 1) end w (omega arith)
 after_within (Jmp to) regs k end w h = w
 after_within _ regs k end w h = omega arith
 
@@ -128,23 +134,27 @@ pub record Moves (g : Guarded) (after k : ℕ) : Type 0 where
   pub plain : plain_place g after ≡ k
   pub within : k ≤ length (plain_of g)
 
-moves : (g : Guarded) (cpu : Cpu) (place : ℕ) (j : Instr) → IsOnGuarded g cpu → (f : Found (plain_of g) (plain_place g cpu.place) place j)
+moves : (g : Guarded) (cpu : Cpu) (place : ℕ) (j : Instr) → IsOnGuarded g cpu
+    → (f : Found (plain_of g) (plain_place g cpu.place) place j)
     → Moves g (place_after j cpu.regs place) (place_after f.i cpu.regs (plain_place g cpu.place))
 moves g cpu place j on f =
     let p = plain_of g in
     let k = plain_place g cpu.place in
     let next : first_op p (k + 1) ≡ place + 1 = rw (add-one k) (next_first p k f.i f.there ∙ let b = f.behind in omega arith) in
-    let within : place_after f.i cpu.regs k ≤ length p = after_within f.i cpu.regs k (length p) (instr_of p k f.i on.valid f.there).1 (slice_get_within p k f.i f.there) in
+    let within : place_after f.i cpu.regs k ≤ length p = after_within f.i cpu.regs k (length p)
+    (instr_of p k f.i on.valid f.there).1 (slice_get_within p k f.i f.there) in
     let op : place_after j cpu.regs place ≡ first_op p (place_after f.i cpu.regs k) =
     ap (λ (x : Instr). place_after x cpu.regs place) f.moves ∙ place_moved (first_op p) f.i cpu.regs k place f.behind next in
     record {
       op = op;
-      plain = ap (plain_place g) op ∙ ap (λ (h : Guarded). plain_place h (first_op p (place_after f.i cpu.regs k))) on.same ∙ plain_first p (place_after f.i cpu.regs k) within;
+      plain = ap (plain_place g) op ∙ ap (λ (h : Guarded). plain_place h (first_op p (place_after f.i cpu.regs k))) on.same
+          ∙ plain_first p (place_after f.i cpu.regs k) within;
       within = within;
     }
 
 -- it stands at an op again
-pub stays : (g : Guarded) (cpu : Cpu) (place loaded : ℕ) (j : Instr) → IsOnGuarded g cpu → Found (plain_of g) (plain_place g cpu.place) place j
+pub stays : (g : Guarded) (cpu : Cpu) (place loaded : ℕ) (j : Instr) → IsOnGuarded g cpu
+    → Found (plain_of g) (plain_place g cpu.place) place j
     → IsOnGuarded g (completed (Some j) (record { regs = cpu.regs; place = place }) loaded)
 stays g cpu place loaded j on f =
     let m = moves g cpu place j on f in
@@ -156,25 +166,31 @@ stays g cpu place loaded j on f =
     }
 
 -- and has done what the plain processor does
-pub does : (g : Guarded) (cpu : Cpu) (place loaded : ℕ) (j : Instr) → IsOnGuarded g cpu → Found (plain_of g) (plain_place g cpu.place) place j
-    → (on_plain g (completed (Some j) (record { regs = cpu.regs; place = place }) loaded)).cpu ≡ finish_of (plain_of g) (on_plain g cpu).cpu loaded
+pub does : (g : Guarded) (cpu : Cpu) (place loaded : ℕ) (j : Instr) → IsOnGuarded g cpu
+    → Found (plain_of g) (plain_place g cpu.place) place j
+    → (on_plain g (completed (Some j) (record { regs = cpu.regs; place = place }) loaded)).cpu ≡ finish_of (plain_of g)
+    (on_plain g cpu).cpu loaded
 does g cpu place loaded j on f =
     let m = moves g cpu place j on f in
     let k = plain_place g cpu.place in
     let regs : with_written (written j cpu.regs loaded) cpu.regs ≡ with_written (written f.i cpu.regs loaded) cpu.regs =
-    ap (λ (w : Option (ℕ × ℕ)). with_written w cpu.regs) (ap (λ (x : Instr). written x cpu.regs loaded) f.moves ∙ written_moved (first_op (plain_of g)) f.i cpu.regs loaded) in
+    ap (λ (w : Option (ℕ × ℕ)). with_written w cpu.regs) (ap (λ (x : Instr). written x cpu.regs loaded) f.moves
+    ∙ written_moved (first_op (plain_of g)) f.i cpu.regs loaded) in
     let cpu' : Cpu = record { regs = cpu.regs; place = k } in
-    let done : ◌≡◌ {A = Cpu} (record { regs = with_written (written j cpu.regs loaded) cpu.regs; place = plain_place g (place_after j cpu.regs place) }) (completed (Some f.i) cpu' loaded) =
-    rw (regs, m.plain) refl in
+    let place' = plain_place g (place_after j cpu.regs place) in
+    let regs' = with_written (written j cpu.regs loaded) cpu.regs in
+    let done : ◌≡◌ {A = Cpu} (record { regs = regs'; place = place' }) (completed (Some f.i) cpu' loaded) = rw (regs, m.plain) refl in
     done ∙ sym (ap (λ (o : Option Instr). completed o cpu' loaded) f.there)
 
 -- its registers are in range
 pub registers_found : (p : List Instr) (k place : ℕ) (j : Instr) → IsProgram p → Found p k place j → HasRegisters j
-registers_found p k place j valid f = subst HasRegisters (sym f.moves) (registers_moved (first_op p) f.i (instr_of p k f.i valid f.there).0)
+registers_found p k place j valid f = subst HasRegisters (sym f.moves)
+    (registers_moved (first_op p) f.i (instr_of p k f.i valid f.there).0)
 
 -- where no instruction stands behind the check, the place is the end
 pub at_end : (p : List Instr) (k : ℕ) (ops : List GuardOp) (at place : ℕ) (cpu : Cpu) (loaded : ℕ) → Standing p k ops at
-    → place ≡ instr_place (slice_get ops at) at → instr_here (slice_get ops place) ≡ None → completed (slice_get p k) cpu loaded ≡ cpu
+    → place ≡ instr_place (slice_get ops at) at → instr_here (slice_get ops place) ≡ None
+    → completed (slice_get p k) cpu loaded ≡ cpu
 at_end p k ops at place cpu loaded (AtEnd e here) is none = ap (λ (o : Option Instr). completed o cpu loaded) e
 at_end p k ops at place cpu loaded (AtPlain i e check here) is none =
     let same : place ≡ at = is ∙ ap (λ (o : Option GuardOp). instr_place o at) here in
@@ -197,7 +213,8 @@ starts p g cpu valid made new =
       there = sym (ap (first_op (plain_of (guarded p))) first ∙ first_zero (plain_of (guarded p)));
     })
 
-pub starts_plain : (p : List Instr) (g : Guarded) (cpu : Cpu) → IsProgram p → g ≡ guarded p → cpu ≡ first_cpu → on_plain g cpu ≡ record { program = p; cpu = first_cpu }
+pub starts_plain : (p : List Instr) (g : Guarded) (cpu : Cpu) → IsProgram p → g ≡ guarded p → cpu ≡ first_cpu
+    → on_plain g cpu ≡ record { program = p; cpu = first_cpu }
 starts_plain p g cpu valid made new =
     let plain : plain_of (guarded p) ≡ p = plain_of-guarded p valid in
     let first : plain_place (guarded p) 0 ≡ 0 = first_place 0 p in

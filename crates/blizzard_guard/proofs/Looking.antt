@@ -32,7 +32,8 @@ may_go_plain m _ regs size e = tt
 
 -- an access asks for the word at the address of its check
 abbrev Asks : Next → Bool → ℕ → ℕ → Type 0
-Asks n store address size = (value : ℕ) × ((n ≡ access store address value size) ⊎ ((true ≡ store) × (n ≡ fetch_and_add address value size)))
+Asks n store address size =
+    (value : ℕ) × ((n ≡ access store address value size) ⊎ ((true ≡ store) × (n ≡ fetch_and_add address value size)))
 
 asks_access : (i : Instr) (store : Bool) (base offset : ℕ) (regs : List ℕ) (size : ℕ) → check_of i ≡ Check store base offset ∷ []
     → Asks (asks (Some i) regs size) store (wrap (slice_index regs base + offset)) size
@@ -41,7 +42,8 @@ asks_access (Ld d a n) store base offset regs size e =
     let b : a ≡ base = cc in
     let o : n ≡ offset = cc in (
       0,
-      inl (ap (λ (t : Bool). access t (wrap (slice_index regs a + n)) 0 size) s ∙ ap (λ k. access store (wrap (slice_index regs k + n)) 0 size) b
+      inl (ap (λ (t : Bool). access t (wrap (slice_index regs a + n)) 0 size) s
+          ∙ ap (λ k. access store (wrap (slice_index regs k + n)) 0 size) b
           ∙ ap (λ k. access store (wrap (slice_index regs base + k)) 0 size) o),
     )
 asks_access (St r a n) store base offset regs size e =
@@ -50,20 +52,28 @@ asks_access (St r a n) store base offset regs size e =
     let o : n ≡ offset = cc in
     let v = slice_index regs r in (
       v,
-      inl (ap (λ (t : Bool). access t (wrap (slice_index regs a + n)) v size) s ∙ ap (λ k. access store (wrap (slice_index regs k + n)) v size) b
+      inl (ap (λ (t : Bool). access t (wrap (slice_index regs a + n)) v size) s
+          ∙ ap (λ k. access store (wrap (slice_index regs k + n)) v size) b
           ∙ ap (λ k. access store (wrap (slice_index regs base + k)) v size) o),
     )
 asks_access (Faa d r a n) store base offset regs size e =
     let s : true ≡ store = cc in
     let b : a ≡ base = cc in
     let o : n ≡ offset = cc in
-    let v = slice_index regs r in
-    (v, inr (s, ap (λ k. fetch_and_add (wrap (slice_index regs k + n)) v size) b ∙ ap (λ k. fetch_and_add (wrap (slice_index regs base + k)) v size) o))
+    let v = slice_index regs r in (
+      v,
+      inr (
+        s,
+        ap (λ k. fetch_and_add (wrap (slice_index regs k + n)) v size) b
+            ∙ ap (λ k. fetch_and_add (wrap (slice_index regs base + k)) v size) o,
+      ),
+    )
 asks_access _ store base offset regs size e = cc
 
 -- ---- an address, and its tag
 
-answered : (m : Copies) (store : Bool) (address : ℕ) → MayGoAt m store address → nat_lt address (m.shape.words * m.shape.blocks) ≡ true → IsAnswered m store address true
+answered : (m : Copies) (store : Bool) (address : ℕ) → MayGoAt m store address
+    → nat_lt address (m.shape.words * m.shape.blocks) ≡ true → IsAnswered m store address true
 answered m store address may e =
     let good : address < m.shape.words * m.shape.blocks = ltb-true address (m.shape.words * m.shape.blocks) e in
     record { good = good; tag = may good }
@@ -78,12 +88,15 @@ go_add : (m : Copies) (address value : ℕ) (b : Bool) → (b ≡ true → IsAns
 go_add m address value true h = h refl
 go_add m address value false h = tt
 
-may_go_by : (m : Copies) (n : Next) (store : Bool) (address : ℕ) → Asks n store address (m.shape.words * m.shape.blocks) → MayGoAt m store address → MayGo m n
+may_go_by : (m : Copies) (n : Next) (store : Bool) (address : ℕ) → Asks n store address (m.shape.words * m.shape.blocks)
+    → MayGoAt m store address → MayGo m n
 may_go_by m n store address (value, inl e) may =
-    subst (MayGo m) (sym e) (go_access m store address value (nat_lt address (m.shape.words * m.shape.blocks)) (answered m store address may))
+    subst (MayGo m) (sym e) (go_access m store address value (nat_lt address (m.shape.words * m.shape.blocks))
+    (answered m store address may))
 may_go_by m n store address (value, inr h) may =
     let may' : MayGoAt m true address = subst (λ (s : Bool). MayGoAt m s address) (sym h.0) may in
-    subst (MayGo m) (sym h.1) (go_add m address value (nat_lt address (m.shape.words * m.shape.blocks)) (answered m true address may'))
+    subst (MayGo m) (sym h.1) (go_add m address value (nat_lt address (m.shape.words * m.shape.blocks))
+    (answered m true address may'))
 
 access_by : (m : Copies) (n : Next) (store : Bool) (address : ℕ) → Asks n store address (m.shape.words * m.shape.blocks)
     → nat_lt address (m.shape.words * m.shape.blocks) ≡ true → IsAccessOf n store address
@@ -97,74 +110,97 @@ access_by m n store address (value, inr h) good =
 -- ---- a look
 
 -- where a check stands nothing else does
-clash : (o o' : Option GuardOp) (store : Bool) (base offset : ℕ) → check_here o ≡ Some (store, base, offset) → o ≡ o' → check_here o' ≡ None → ⊥
+clash : (o o' : Option GuardOp) (store : Bool) (base offset : ℕ) → check_here o ≡ Some (store, base, offset) → o ≡ o'
+    → check_here o' ≡ None → ⊥
 clash o o' store base offset found here none = none-some (store, base, offset) (sym none ∙ sym (ap check_here here) ∙ found)
 
 goes : (m : Copies) (n asked : Next) → asked ≡ n → MayGo m n → LookedAt n m (Goes asked)
 goes m n asked e may = (e, subst (MayGo m) (sym e) may)
 
 -- at an op that is no check
-pub look_plain : (p : List Instr) (k : ℕ) (ops : List GuardOp) (at : ℕ) (regs : List ℕ) (m : Copies) (size : ℕ) → Standing p k ops at
+pub look_plain : (p : List Instr) (k : ℕ) (ops : List GuardOp) (at : ℕ) (regs : List ℕ) (m : Copies) (size : ℕ)
+    → Standing p k ops at
     → check_here (slice_get ops at) ≡ None
     → LookedAt (asks (slice_get p k) regs size) m (Goes (asks (instr_here (slice_get ops at)) regs size))
 look_plain p k ops at regs m size (AtEnd e here) none =
     goes m (asks (slice_get p k) regs size) (asks (instr_here (slice_get ops at)) regs size) (rw (e, here) refl) (rw e tt)
 look_plain p k ops at regs m size (AtPlain i e check here) none =
-    goes m (asks (slice_get p k) regs size) (asks (instr_here (slice_get ops at)) regs size) (rw (e, here) (asks_moved (first_op p) i regs size)) (rw e (may_go_plain m i regs size check))
-look_plain p k ops at regs m size (AtAccess i store base offset e check here next) none = absurd (no_check (slice_get ops at) store base offset none here)
+    goes m (asks (slice_get p k) regs size) (asks (instr_here (slice_get ops at)) regs size)
+    (rw (e, here) (asks_moved (first_op p) i regs size)) (rw e (may_go_plain m i regs size check))
+look_plain p k ops at regs m size (AtAccess i store base offset e check here next) none =
+    absurd (no_check (slice_get ops at) store base offset none here)
 
 -- at a check that nothing refuses
-pub look_hit : (p : List Instr) (k : ℕ) (ops : List GuardOp) (at : ℕ) (regs : List ℕ) (m : Copies) (store : Bool) (base offset : ℕ) → Standing p k ops at
+pub look_hit : (p : List Instr) (k : ℕ) (ops : List GuardOp) (at : ℕ) (regs : List ℕ) (m : Copies) (store : Bool)
+    (base offset : ℕ) → Standing p k ops at
     → check_here (slice_get ops at) ≡ Some (store, base, offset) → MayGoAt m store (wrap (slice_index regs base + offset))
-    → LookedAt (asks (slice_get p k) regs (m.shape.words * m.shape.blocks)) m (Goes (asks (instr_here (slice_get ops (at + 1))) regs (m.shape.words * m.shape.blocks)))
-look_hit p k ops at regs m store base offset (AtEnd e here) found may = absurd (clash (slice_get ops at) None store base offset found here refl)
-look_hit p k ops at regs m store base offset (AtPlain i e check here) found may = absurd (clash (slice_get ops at) (Some (Do (moved (first_op p) i))) store base offset found here refl)
+    → LookedAt (asks (slice_get p k) regs (m.shape.words * m.shape.blocks)) m
+    (Goes (asks (instr_here (slice_get ops (at + 1))) regs (m.shape.words * m.shape.blocks)))
+look_hit p k ops at regs m store base offset (AtEnd e here) found may =
+    absurd (clash (slice_get ops at) None store base offset found here refl)
+look_hit p k ops at regs m store base offset (AtPlain i e check here) found may =
+    absurd (clash (slice_get ops at) (Some (Do (moved (first_op p) i))) store base offset found here refl)
 look_hit p k ops at regs m store base offset (AtAccess i store' base' offset' e check here next) found may =
     let is : slice_get ops at ≡ Some (Check store base offset) = is_check (slice_get ops at) store base offset found in
     let same : Check store' base' offset' ≡ Check store base offset = cc in
     let size = m.shape.words * m.shape.blocks in
-    goes m (asks (slice_get p k) regs size) (asks (instr_here (slice_get ops (at + 1))) regs size) (rw (e, next) (asks_moved (first_op p) i regs size))
+    goes m (asks (slice_get p k) regs size) (asks (instr_here (slice_get ops (at + 1))) regs size)
+    (rw (e, next) (asks_moved (first_op p) i regs size))
     (rw e (may_go_by m (asks (Some i) regs size) store (wrap (slice_index regs base + offset))
     (asks_access i store base offset regs size (check ∙ ap (λ (o : GuardOp). o ∷ []) same)) may))
 
 -- at a check that refuses its access
-pub look_miss : (p : List Instr) (k : ℕ) (ops : List GuardOp) (at : ℕ) (regs : List ℕ) (m : Copies) (store : Bool) (base offset address : ℕ) → Standing p k ops at
-    → check_here (slice_get ops at) ≡ Some (store, base, offset) → address ≡ wrap (slice_index regs base + offset) → IsAnswered m store (wrap (slice_index regs base + offset)) false
+pub look_miss : (p : List Instr) (k : ℕ) (ops : List GuardOp) (at : ℕ) (regs : List ℕ) (m : Copies) (store : Bool)
+    (base offset address : ℕ) → Standing p k ops at
+    → check_here (slice_get ops at) ≡ Some (store, base, offset) → address ≡ wrap (slice_index regs base + offset)
+    → IsAnswered m store (wrap (slice_index regs base + offset)) false
     → LookedAt (asks (slice_get p k) regs (m.shape.words * m.shape.blocks)) m (Refused store address)
-look_miss p k ops at regs m store base offset address (AtEnd e here) found where_ refuses = absurd (clash (slice_get ops at) None store base offset found here refl)
-look_miss p k ops at regs m store base offset address (AtPlain i e check here) found where_ refuses = absurd (clash (slice_get ops at) (Some (Do (moved (first_op p) i))) store base offset found here refl)
+look_miss p k ops at regs m store base offset address (AtEnd e here) found where_ refuses =
+    absurd (clash (slice_get ops at) None store base offset found here refl)
+look_miss p k ops at regs m store base offset address (AtPlain i e check here) found where_ refuses =
+    absurd (clash (slice_get ops at) (Some (Do (moved (first_op p) i))) store base offset found here refl)
 look_miss p k ops at regs m store base offset address (AtAccess i store' base' offset' e check here next) found where_ refuses =
     let is : slice_get ops at ≡ Some (Check store base offset) = is_check (slice_get ops at) store base offset found in
     let same : Check store' base' offset' ≡ Check store base offset = cc in
     let size = m.shape.words * m.shape.blocks in
     let there = wrap (slice_index regs base + offset) in
-    let asked : Asks (asks (Some i) regs size) store there size = asks_access i store base offset regs size (check ∙ ap (λ (o : GuardOp). o ∷ []) same) in
+    let asked : Asks (asks (Some i) regs size) store there size = asks_access i store base offset regs size (check
+    ∙ ap (λ (o : GuardOp). o ∷ []) same) in
     subst (λ a. LookedAt (asks (slice_get p k) regs size) m (Refused store a)) (sym where_)
     (rw e (access_by m (asks (Some i) regs size) store there asked (lt-ltb there size refuses.good)), refuses)
 
 -- ---- registers
 
-in_range : (p : List Instr) (k : ℕ) (i : Instr) (o : Option GuardOp) → IsProgram p → slice_get p k ≡ Some i → o ≡ Some (Do (moved (first_op p) i)) → IfSome (instr_here o) HasRegisters
+in_range : (p : List Instr) (k : ℕ) (i : Instr) (o : Option GuardOp) → IsProgram p → slice_get p k ≡ Some i
+    → o ≡ Some (Do (moved (first_op p) i)) → IfSome (instr_here o) HasRegisters
 in_range p k i o valid e is = rw is (registers_moved (first_op p) i (instr_of p k i valid e).0)
 
 -- at an op
-pub registers_at : (p : List Instr) (k : ℕ) (ops : List GuardOp) (at : ℕ) → IsProgram p → Standing p k ops at → IfSome (instr_here (slice_get ops at)) HasRegisters
+pub registers_at : (p : List Instr) (k : ℕ) (ops : List GuardOp) (at : ℕ) → IsProgram p → Standing p k ops at
+    → IfSome (instr_here (slice_get ops at)) HasRegisters
 registers_at p k ops at valid (AtEnd e here) = rw here tt
 registers_at p k ops at valid (AtPlain i e check here) = in_range p k i (slice_get ops at) valid e here
 registers_at p k ops at valid (AtAccess i store base offset e check here next) = rw here tt
 
 -- behind a check
-pub registers_behind : (p : List Instr) (k : ℕ) (ops : List GuardOp) (at : ℕ) (store : Bool) (base offset : ℕ) → IsProgram p → Standing p k ops at
+pub registers_behind : (p : List Instr) (k : ℕ) (ops : List GuardOp) (at : ℕ) (store : Bool) (base offset : ℕ) → IsProgram p
+    → Standing p k ops at
     → check_here (slice_get ops at) ≡ Some (store, base, offset) → IfSome (instr_here (slice_get ops (at + 1))) HasRegisters
-registers_behind p k ops at store base offset valid (AtEnd e here) found = absurd (clash (slice_get ops at) None store base offset found here refl)
-registers_behind p k ops at store base offset valid (AtPlain i e check here) found = absurd (clash (slice_get ops at) (Some (Do (moved (first_op p) i))) store base offset found here refl)
-registers_behind p k ops at store base offset valid (AtAccess i store' base' offset' e check here next) found = in_range p k i (slice_get ops (at + 1)) valid e next
+registers_behind p k ops at store base offset valid (AtEnd e here) found =
+    absurd (clash (slice_get ops at) None store base offset found here refl)
+registers_behind p k ops at store base offset valid (AtPlain i e check here) found =
+    absurd (clash (slice_get ops at) (Some (Do (moved (first_op p) i))) store base offset found here refl)
+registers_behind p k ops at store base offset valid (AtAccess i store' base' offset' e check here next) found = in_range p k
+    i (slice_get ops (at + 1)) valid e next
 
 -- a check's base is a register
-pub base_below : (p : List Instr) (k : ℕ) (ops : List GuardOp) (at : ℕ) (store : Bool) (base offset : ℕ) → IsProgram p → Standing p k ops at
+pub base_below : (p : List Instr) (k : ℕ) (ops : List GuardOp) (at : ℕ) (store : Bool) (base offset : ℕ) → IsProgram p
+    → Standing p k ops at
     → check_here (slice_get ops at) ≡ Some (store, base, offset) → base < 16
-base_below p k ops at store base offset valid (AtEnd e here) found = absurd (clash (slice_get ops at) None store base offset found here refl)
-base_below p k ops at store base offset valid (AtPlain i e check here) found = absurd (clash (slice_get ops at) (Some (Do (moved (first_op p) i))) store base offset found here refl)
+base_below p k ops at store base offset valid (AtEnd e here) found =
+    absurd (clash (slice_get ops at) None store base offset found here refl)
+base_below p k ops at store base offset valid (AtPlain i e check here) found =
+    absurd (clash (slice_get ops at) (Some (Do (moved (first_op p) i))) store base offset found here refl)
 base_below p k ops at store base offset valid (AtAccess i store' base' offset' e check here next) found =
     let is : slice_get ops at ≡ Some (Check store base offset) = is_check (slice_get ops at) store base offset found in
     let same : base' ≡ base = cc in

@@ -16,12 +16,15 @@ use Rattle.blizzard_guard.proofs.Ops.{drop-ops_of}
 -- the end of the program; an instruction that is no access; an access, behind its check
 pub data Standing (p : List Instr) (k : ℕ) (ops : List GuardOp) (at : ℕ) : Type 0 where
   AtEnd : slice_get p k ≡ None → slice_get ops at ≡ None → Standing p k ops at
-  AtPlain : (i : Instr) → slice_get p k ≡ Some i → check_of i ≡ [] → slice_get ops at ≡ Some (Do (moved (first_op p) i)) → Standing p k ops at
+  AtPlain : (i : Instr) → slice_get p k ≡ Some i → check_of i ≡ [] → slice_get ops at ≡ Some (Do (moved (first_op p) i))
+      → Standing p k ops at
   AtAccess : (i : Instr) (store : Bool) (base offset : ℕ) → slice_get p k ≡ Some i → check_of i ≡ Check store base offset ∷ []
-      → slice_get ops at ≡ Some (Check store base offset) → slice_get ops (at + 1) ≡ Some (Do (moved (first_op p) i)) → Standing p k ops at
+      → slice_get ops at ≡ Some (Check store base offset) → slice_get ops (at + 1) ≡ Some (Do (moved (first_op p) i))
+      → Standing p k ops at
 
 -- an instruction has one check or none
-pub check_cases : (i : Instr) → (check_of i ≡ []) ⊎ ((store : Bool) × (base : ℕ) × (offset : ℕ) × (check_of i ≡ Check store base offset ∷ []))
+pub check_cases : (i : Instr)
+    → (check_of i ≡ []) ⊎ ((store : Bool) × (base : ℕ) × (offset : ℕ) × (check_of i ≡ Check store base offset ∷ []))
 check_cases (Ld d a n) = inr (false, a, n, refl)
 check_cases (St s a n) = inr (true, a, n, refl)
 check_cases (Faa d s a n) = inr (true, a, n, refl)
@@ -37,15 +40,25 @@ drop_some [] k x e = cc
 drop_some (y ∷ xs) zero x e = cc
 drop_some (y ∷ xs) (suc k) x e = drop_some xs k x e
 
+-- the ops from those of the instruction at k on
+pub ops_from : (p : List Instr) (k : ℕ) (i : Instr) → slice_get p k ≡ Some i
+    → drop (first_op p k) (ops_of (first_op p) p)
+    ≡ check_of i ++ Do (moved (first_op p) i) ∷ drop (first_op p (suc k)) (ops_of (first_op p) p)
+ops_from p k i e =
+    drop-ops_of (first_op p) p k ∙ ap (ops_of (first_op p)) (drop_some p k i e)
+    ∙ ap (λ (ops : List GuardOp). check_of i ++ Do (moved (first_op p) i) ∷ ops) (sym (drop-ops_of (first_op p) p (suc k)))
+
 -- an op of the instruction at k, counted from its first
 op_of : (p : List Instr) (k : ℕ) (i : Instr) (j : ℕ) → slice_get p k ≡ Some i
-    → slice_get (ops_of (first_op p) p) (first_op p k + j) ≡ slice_get (check_of i ++ Do (moved (first_op p) i) ∷ ops_of (first_op p) (drop (suc k) p)) j
+    → slice_get (ops_of (first_op p) p) (first_op p k + j) ≡ slice_get (check_of i ++ Do (moved (first_op p) i) ∷ ops_of
+    (first_op p) (drop (suc k) p)) j
 op_of p k i j e =
     at_drop (ops_of (first_op p) p) (first_op p k) j
     ∙ ap (λ (ops : List GuardOp). slice_get ops j) (drop-ops_of (first_op p) p k ∙ ap (ops_of (first_op p)) (drop_some p k i e))
 
 first_of : (p : List Instr) (k : ℕ) (i : Instr) → slice_get p k ≡ Some i
-    → slice_get (ops_of (first_op p) p) (first_op p k) ≡ slice_get (check_of i ++ Do (moved (first_op p) i) ∷ ops_of (first_op p) (drop (suc k) p)) 0
+    → slice_get (ops_of (first_op p) p) (first_op p k) ≡ slice_get (check_of i ++ Do (moved (first_op p) i) ∷ ops_of
+    (first_op p) (drop (suc k) p)) 0
 first_of p k i e = ap (slice_get (ops_of (first_op p) p)) (sym (add-zero (first_op p k))) ∙ op_of p k i 0 e
 
 op_end : (p : List Instr) (k : ℕ) → length p ≤ k → slice_get (ops_of (first_op p) p) (first_op p k) ≡ None
@@ -54,11 +67,15 @@ op_end p k h =
     ∙ ap (λ (ops : List GuardOp). slice_get ops 0) (drop-ops_of (first_op p) p k ∙ ap (ops_of (first_op p)) (drop_all k p h))
 
 at_instr : (p : List Instr) (k : ℕ) (i : Instr) → slice_get p k ≡ Some i
-    → ((check_of i ≡ []) ⊎ ((store : Bool) × (base : ℕ) × (offset : ℕ) × (check_of i ≡ Check store base offset ∷ []))) → Standing p k (ops_of (first_op p) p) (first_op p k)
+    → ((check_of i ≡ []) ⊎ ((store : Bool) × (base : ℕ) × (offset : ℕ) × (check_of i ≡ Check store base offset ∷ [])))
+    → Standing p k (ops_of (first_op p) p) (first_op p k)
 at_instr p k i e (inl none) = AtPlain i e none (first_of p k i e ∙ rw none refl)
-at_instr p k i e (inr (store, base, offset, check)) = AtAccess i store base offset e check (first_of p k i e ∙ rw check refl) (op_of p k i 1 e ∙ rw check refl)
+at_instr p k i e (inr (store, base, offset, check)) = AtAccess i store base offset e check (first_of p k i e
+    ∙ rw check refl) (op_of p k i 1 e ∙ rw check refl)
 
-by_place : (p : List Instr) (k : ℕ) → (((i : Instr) × (k < length p) × (slice_get p k ≡ Some i) × (get_or p k i ≡ i)) ⊎ ((length p ≤ k) × (slice_get p k ≡ None))) → Standing p k (ops_of (first_op p) p) (first_op p k)
+by_place : (p : List Instr) (k : ℕ)
+    → (((i : Instr) × (k < length p) × (slice_get p k ≡ Some i) × (get_or p k i ≡ i)) ⊎ ((length p ≤ k) × (slice_get p
+    k ≡ None))) → Standing p k (ops_of (first_op p) p) (first_op p k)
 by_place p k (inl h) = at_instr p k h.0 h.2 (check_cases h.0)
 by_place p k (inr h) = AtEnd h.1 (op_end p k h.0)
 
@@ -69,7 +86,8 @@ standing g cpu on =
     let k = plain_place g cpu.place in
     let ops : ops_of (first_op p) p ≡ g.ops = sym (ap (λ (h : Guarded). h.ops) on.same) in
     let here : Standing p k (ops_of (first_op p) p) (first_op p k) = by_place p k (slice_get_cases p k).1 in
-    subst (λ (os : List GuardOp). Standing p k os cpu.place) ops (subst (Standing p k (ops_of (first_op p) p)) (sym on.there) here)
+    subst (λ (os : List GuardOp). Standing p k os cpu.place) ops (subst (Standing p k (ops_of (first_op p) p))
+    (sym on.there) here)
 
 -- an instruction of a program is one of its length
 pub instr_of : (p : List Instr) (k : ℕ) (i : Instr) → IsProgram p → slice_get p k ≡ Some i → IsInstr (length p) i
@@ -81,7 +99,8 @@ registers_moved f (Beq a b place) h = h
 registers_moved f _ h = h
 
 -- an access has its base among its registers
-pub base_of : (i : Instr) (store : Bool) (base offset : ℕ) → check_of i ≡ Check store base offset ∷ [] → HasRegisters i → base < 16
+pub base_of : (i : Instr) (store : Bool) (base offset : ℕ) → check_of i ≡ Check store base offset ∷ [] → HasRegisters i
+    → base < 16
 base_of (Ld d a n) store base offset e h = let same : a ≡ base = cc in subst (λ n. n < 16) same h.1
 base_of (St s a n) store base offset e h = let same : a ≡ base = cc in subst (λ n. n < 16) same h.1
 base_of (Faa d s a n) store base offset e h = let same : a ≡ base = cc in subst (λ n. n < 16) same h.2
@@ -89,7 +108,8 @@ base_of _ store base offset e h = cc
 
 -- ---- what the code reads at a place
 
-pub is_check : (o : Option GuardOp) (store : Bool) (base offset : ℕ) → check_here o ≡ Some (store, base, offset) → o ≡ Some (Check store base offset)
+pub is_check : (o : Option GuardOp) (store : Bool) (base offset : ℕ) → check_here o ≡ Some (store, base, offset)
+    → o ≡ Some (Check store base offset)
 is_check None store base offset e = cc
 is_check (Some (Check store' base' offset')) store base offset e =
     ap (λ (t : Bool × ℕ × ℕ). Some (Check t.0 t.1 t.2)) (same_Some (store', base', offset') (store, base, offset) e)
@@ -100,7 +120,8 @@ is_instr None i e = cc
 is_instr (Some (Check store base offset)) i e = cc
 is_instr (Some (Do j)) i e = cc
 
-pub no_check : (o : Option GuardOp) (store : Bool) (base offset : ℕ) → check_here o ≡ None → o ≡ Some (Check store base offset) → ⊥
+pub no_check : (o : Option GuardOp) (store : Bool) (base offset : ℕ) → check_here o ≡ None
+    → o ≡ Some (Check store base offset) → ⊥
 no_check o store base offset e is = let some : check_here o ≡ Some (store, base, offset) = ap check_here is in cc
 
 pub no_instr : (o : Option GuardOp) (i : Instr) → instr_here o ≡ None → o ≡ Some (Do i) → ⊥

@@ -7,8 +7,10 @@
 
 mod access;
 mod guarding;
+mod laws;
 mod processor;
 
 pub use access::{Looked, check_access};
 pub use guarding::{GuardOp, Guarded, guard, plain_place};
+pub use laws::guarded_programs_are_plain;
 pub use processor::{Look, Processor};
