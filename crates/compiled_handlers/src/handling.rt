@@ -1,4 +1,4 @@
-ghost use Rattle.std.specs.Prelude.{◌≡◌, ◌^◌, ◌<◌, ◌≤◌, length};
+ghost use Rattle.std.specs.Prelude.{◌≡◌, ◌^◌, ◌<◌, ◌≤◌, IfOk, length};
 ghost use Rattle.teapot_meaning.specs.Does.{Does};
 ghost use Rattle.teapot_meaning.specs.Fits.{Fits, IsMessageOf};
 ghost use Rattle.teapot_meaning.specs.declared.state.Ended.{Ended};
@@ -6,6 +6,7 @@ ghost use Rattle.teapot_meaning.specs.declared.state.Here.{Here};
 ghost use Rattle.handler_code.specs.Machine.{Stopped};
 ghost use Rattle.handler_vm.specs.Chains.{IsChain, KeepsOthers};
 ghost use Rattle.handler_vm.specs.Leaves.{Leaves, StopsAt};
+ghost use Rattle.handler_vm.specs.Tables.{IsTableOf};
 ghost use Rattle.compiled_meaning.specs.Whole.{IsCode};
 ghost use Rattle.compiled_handlers.specs.Standing.{BlockStands, DoesAsMeant, IsBlockOf};
 
@@ -13,17 +14,28 @@ use crate::laws::code_is_lawful;
 use block_tags::Blocks;
 use cont_store::Conts;
 use handler_code::Code;
-use handler_vm::{Around, Cell, Ran, run};
+use handler_vm::{Around, Cell, Doors, Ran, run};
+use std::alloc::Global;
 use teapot_tree::Checked;
-use tw_base::{Message, NodeId};
+use tw_base::{Memory, Message, NodeId};
+
+/// Finds the doors of a protocol's code, for all messages that are handled by it.
+pub fn doors(alloc: Global, code: &Code, p: &Checked) -> Result<Doors, Memory>
+    requires { IsCode p.now code.now }
+    ensures { IfOk result (λ d. IsTableOf p.now code.now d) }
+{
+    Doors::new(alloc, code, p)
+}
 
 /// Handles a message for a block by the protocol's code. It takes no memory.
 ///
 /// What is done is what the message means at the block that the cell, its records, and the block's tag and words stand for,
 /// and what they are afterwards stands for the block that the meaning leaves. It is the stop that the machine of ops comes
 /// to, with its counts of ops and records. All other blocks and records stay, and the chain of records is whole again.
+/// The doors are those of the code, found before the first message.
 pub fn handle(
     code: &Code,
+    doors: &Doors,
     p: &Checked,
     cell: &mut Cell,
     blocks: &mut Blocks,
@@ -34,6 +46,7 @@ pub fn handle(
     around: &mut Around,
 ) -> Ran
     requires code { IsCode p.now code.now }
+    requires doors { IsTableOf p.now code.now doors.now }
     requires short { length code.now.ops < 2 ^ 22 }
     requires stands { (here : Here)
         × IsBlockOf me home m.now.block here
@@ -59,5 +72,5 @@ pub fn handle(
     code_is_lawful();
     let _shape = blocks.shape();
     let _protocol = p.protocol();
-    run(code, p, cell, blocks, conts, me, home, m, around)
+    run(code, doors, p, cell, blocks, conts, me, home, m, around)
 }

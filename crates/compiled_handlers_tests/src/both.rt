@@ -9,6 +9,7 @@ ghost use Rattle.cont_store.specs.Store.{Store};
 ghost use Rattle.handler_code.specs.declared.code.Code.{Code};
 ghost use Rattle.handler_vm.specs.declared.cell.Cell.{Cell};
 ghost use Rattle.handler_vm.specs.Chains.{IsChain};
+ghost use Rattle.handler_vm.specs.Tables.{IsTableOf};
 ghost use Rattle.compiled_meaning.specs.Whole.{IsCode};
 ghost use Rattle.compiled_handlers.specs.Standing.{BlockStands};
 ghost use Rattle.compiled_handlers_tests.specs.Alike.{Alike, EndsAlike, IsPlain};
@@ -17,10 +18,10 @@ ghost use Rattle.compiled_handlers_tests.specs.Beside.{IsBeside, StaysBeside};
 use crate::chain::same_chain;
 use crate::messages::{have_types, is_message};
 use block_tags::Blocks;
-use compiled_handlers::handle;
+use compiled_handlers::{doors, handle};
 use cont_store::Conts;
 use handler_code::Code;
-use handler_vm::{Around, Cell, Ran, chains_stay_apart};
+use handler_vm::{Around, Cell, Doors, Ran, chains_stay_apart};
 use std::alloc::Global;
 use std::test::Fail;
 use teapot_interpreter::run;
@@ -209,8 +210,9 @@ fn ready(both: &mut Both) -> Result<(), Memory>
 }
 
 // What the code does, where there is room.
-fn run_code(code: &Code, p: &Checked, both: &mut Both, m: &Message) -> Ran
+fn run_code(code: &Code, doors: &Doors, p: &Checked, both: &mut Both, m: &Message) -> Ran
     requires code { IsCode p.now code.now }
+    requires doors { IsTableOf p.now code.now doors.now }
     requires short { length code.now.ops < 2 ^ 22 }
     requires alike { Alike p.now code.now (record { cell = both.old.cell; blocks = both.old.blocks; conts = both.old.conts }) both.old.here }
     requires block { m.now.block ≡ both.old.here.block }
@@ -230,6 +232,7 @@ fn run_code(code: &Code, p: &Checked, both: &mut Both, m: &Message) -> Ran
     let home = both.here.home;
     handle(
         code,
+        doors,
         p,
         &mut both.cell,
         &mut both.blocks,
@@ -265,7 +268,8 @@ pub fn handled(
     }
     ready(both)?;
     let end = run(alloc, p, &both.here, m)?;
-    let ran = run_code(code, p, both, m);
+    let doors = doors(alloc, code, p)?;
+    let ran = run_code(code, &doors, p, both, m);
     Ok((ran, end))
 }
 

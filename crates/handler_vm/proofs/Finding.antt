@@ -5,11 +5,11 @@ use Rattle.std.specs.List.{flat_map, position_or_len}
 use Rattle.std.specs.Option.{option_map, option_or}
 use Rattle.std.proofs.lemmas.Bool.{cases_lt}
 use Rattle.std.proofs.lemmas.Bool.Decides.{nat_tests}
-use Rattle.std.proofs.lemmas.List.{take_at, drop_at, take-map, drop-map, length-map, length-take, take-append-drop}
+use Rattle.std.proofs.lemmas.List.{get_or-drop, get_or-take, length-drop, take_at, drop_at, take-map, drop-map, length-map, length-take, take-append-drop}
 use Rattle.std.proofs.lemmas.List.Concat.{flat_map-append}
 use Rattle.std.proofs.lemmas.List.Folds.{find_at}
 use Rattle.std.proofs.lemmas.List.Quantifiers.{position-Some}
-use Rattle.std.proofs.lemmas.Option.{cond_some, get_or_from_slice_get, slice_get-get_or, slice_get-map, slice_get_past}
+use Rattle.std.proofs.lemmas.Option.{cond_some, get_or_from_slice_get, slice_get-get_or, slice_get-map, slice_get_past, slice_get_within}
 use Rattle.tw_base.specs.Lists.{Each}
 use Rattle.tw_base.specs.declared.message.Kind.{Kind}
 use Rattle.teapot_tree.specs.declared.protocol.Handler.{Handler}
@@ -23,6 +23,8 @@ use Rattle.handler_code.specs.declared.code.Kind2.TheVariants as on
 use Rattle.handler_code.specs.Doors.{door_for, door_or, handlers_at, is_for, is_for_all_else, kind_of, locals_at, locals_of, same_kind}
 use Rattle.handler_vm.specs.Finding.{StateDoors, place_for}
 use Rattle.handler_vm.specs.Order.{IsInOrder, Sign, sign_of, signs_from}
+use Rattle.handler_vm.specs.Tables.{Leads, StandsAt}
+use Rattle.handler_vm.specs.declared.doors.Place.{Place}
 
 -- ---- the signs of one state among those of all
 
@@ -177,25 +179,27 @@ few_before ss n =
 pub few_handlers : (p : Protocol) (n : ℕ) (ss : List State) → IsAccepted p → ss ≡ p.states → length (flat_map (λ (s : State). s.handlers) (take n ss)) ≤ 1024
 few_handlers p n ss a is = omega (arith, few_before ss n, ap (λ xs. length (handlers_of xs)) is, a.tree.few_handlers)
 
-state_of : (ss : List State) (k : ℕ) → k < length ss → (s : State) × (slice_get ss k ≡ Some s)
-state_of [] k low = absurd (omega (arith, low))
-state_of (s ∷ ss) zero low = (s, refl)
-state_of (s ∷ ss) (suc k) low = state_of ss k (omega (arith, low))
+item_of : {X : Type 0} (xs : List X) (k : ℕ) → k < length xs → (x : X) × (slice_get xs k ≡ Some x)
+item_of [] k low = absurd (omega (arith, low))
+item_of (x ∷ xs) zero low = (x, refl)
+item_of (x ∷ xs) (suc k) low = item_of xs k (omega (arith, low))
 
-module _ (p : Protocol) (code : Code) (state n first : ℕ) (ss : List State) (order : IsInOrder p code) (low : state < length p.states) (all : ss ≡ p.states) (same : n ≡ state) (counted : first ≡ length (flat_map (λ (x : State). x.handlers) (take n ss))) where
-  counted_all : first ≡ length (flat_map (λ (x : State). x.handlers) (take state p.states))
-  counted_all = counted ∙ ap (λ (xs : List State). length (handlers_of (take n xs))) all ∙ ap (λ k. length (handlers_of (take k p.states))) same
+-- a protocol's code has few doors
+pub doors_few : (p : Protocol) (code : Code) → IsAccepted p → IsInOrder p code → length code.doors ≤ 1024
+doors_few p code a order =
+    omega (arith, sym (length-map code.doors sign_of), ap length order, length-signs p 0 p.states, a.tree.few_handlers)
 
+module _ (p : Protocol) (code : Code) (state first : ℕ) (order : IsInOrder p code) (low : state < length p.states) (begins : first ≡ length (flat_map (λ (s : State). s.handlers) (take state p.states))) where
   pub doors_there : first + length (handlers_at (slice_get p.states state)) ≤ length code.doors
   doors_there =
-      let s = state_of p.states state low in
-      omega (arith, doors_within p code order state s.0 s.1 first counted_all, ap (λ (o : Option State). length (handlers_at o)) s.1)
+      let s = item_of p.states state low in
+      omega (arith, doors_within p code order state s.0 s.1 first begins, ap (λ (o : Option State). length (handlers_at o)) s.1)
 
   pub state_doors : (count : ℕ) → count ≡ length (handlers_at (slice_get p.states state)) → StateDoors p code state (handlers_at (slice_get p.states state)) (take count (drop first code.doors))
   state_doors count many =
-      let s = state_of p.states state low in
+      let s = item_of p.states state low in
       subst (λ (o : Option State). StateDoors p code state (handlers_at o) (take count (drop first code.doors))) (sym s.1)
-      (own_doors p code order state s.0 s.1 first count counted_all (many ∙ ap (λ (o : Option State). length (handlers_at o)) s.1))
+      (own_doors p code order state s.0 s.1 first count begins (many ∙ ap (λ (o : Option State). length (handlers_at o)) s.1))
 
 -- ---- by place
 
@@ -269,11 +273,6 @@ within kind own None other a b k e = (position-Some (λ (x : Door). is_for_all_e
 pub place_within : (kind : Kind) (own : List Door) (k : ℕ) → place_for kind own ≡ Some k → k < length own
 place_within kind own k e = within kind own _ _ refl refl k e
 
--- the door is the one for the message, and the handler is the door's
-pub record Leads (p : Protocol) (code : Code) (state : ℕ) (kind : Kind) (d : Door) (h : Handler) : Type 0 where
-  pub door : door_for code state kind ≡ Some d
-  pub locals : h.locals ≡ locals_of p d
-
 module _ (p : Protocol) (code : Code) (state : ℕ) (own : List Door) (doors : StateDoors p code state (handlers_at (slice_get p.states state)) own) (kind : Kind) where
   abbrev handlers : List Handler
   handlers = handlers_at (slice_get p.states state)
@@ -307,23 +306,54 @@ module _ (p : Protocol) (code : Code) (state : ℕ) (own : List Door) (doors : S
         locals = locals_are d h k is_d low there (leads p state handlers own doors.signs is_for_all_else k d h place is_d there);
       }
 
-  pub leads_at : (k : ℕ) → place_for kind own ≡ Some k → (d : Door) (hs : List Handler) → hs ≡ handlers → (h : Handler) → h ≡ get_or hs k h → Leads p code state kind (get_or own k d) h
-  leads_at k e d hs all h is =
-      let low : k < length own = place_within kind own k e in
-      let at : slice_get own k ≡ Some (get_or own k d) = slice_get-get_or own k d low in
-      let many : length hs ≡ length own = ap length all ∙ sym (as_many p state handlers own doors.signs) in
-      let there : slice_get handlers k ≡ Some h = ap (λ (xs : List Handler). slice_get xs k) (sym all) ∙ slice_get-get_or hs k h (omega (arith, low, many)) ∙ ap Some (sym is) in
-      by_place _ _ refl refl k e (get_or own k d) h (sym (get_or_from_slice_get own k (get_or own k d) (get_or own k d) at)) there
-
   nowhere : (own_place default_place : Option ℕ) → position (λ d. is_for kind d.on) own ≡ own_place → position (λ d. is_for_all_else d.on) own ≡ default_place
       → option_or own_place default_place ≡ None → door_for code state kind ≡ None
   nowhere (Some j) other a b e = absurd (cc)
   nowhere None other a b e =
       found_for ∙ ap (λ o. door_or o (find (λ x. is_for_all_else x.on) own)) (no_place (λ x. is_for kind x.on) own a) ∙ no_place (λ x. is_for_all_else x.on) own (b ∙ e)
 
-  -- where the state has a door for the message, it has a place
-  pub has_place : IsSome (door_for code state kind) → place_for kind own ≡ None → ⊥
-  has_place some e =
-      let none : door_for code state kind ≡ None = nowhere _ _ refl refl e in
-      let no : false ≡ true = subst (λ (o : Option Door). IsSome o) none some in
-      cc
+  pub no_door_for : place_for kind own ≡ None → door_for code state kind ≡ None
+  no_door_for e = nowhere _ _ refl refl e
+
+inside : (ds : List Door) (first count k : ℕ) (d : Door) → slice_get (take count (drop first ds)) k ≡ Some d → slice_get ds (first + k) ≡ Some d
+inside ds first count k d e =
+    let low = slice_get_within (take count (drop first ds)) k d e in
+    let few : k < count = omega (arith, low, length-take count (drop first ds)) in
+    let there : first + k < length ds = omega (arith, low, length-take count (drop first ds), length-drop first ds) in
+    slice_get-get_or ds (first + k) d there
+    ∙ ap Some (sym (get_or-drop first ds k d) ∙ sym (get_or-take count (drop first ds) k d few) ∙ get_or_from_slice_get (take count (drop first ds)) k d d e)
+
+-- the place that is found among a state's doors is the door's, behind those of the states before
+pub stands_at :
+    (p : Protocol) (code : Code) (state first count : ℕ) (kind : Kind) (place : Place) (k : ℕ)
+    → StateDoors p code state (handlers_at (slice_get p.states state)) (take count (drop first code.doors))
+    → place_for kind (take count (drop first code.doors)) ≡ Some k → place.door ≡ first + k → place.handler ≡ k → StandsAt p code state kind place
+stands_at p code state first count kind place k doors e at same =
+    let own = take count (drop first code.doors) in
+    let handlers = handlers_at (slice_get p.states state) in
+    let low : k < length own = place_within kind own k e in
+    let d = item_of own k low in
+    let h = item_of handlers k (omega (arith, low, as_many p state handlers own doors.signs)) in
+    record {
+      door = d.0;
+      is_door = ap (slice_get code.doors) at ∙ inside code.doors first count k d.0 d.1;
+      handler = h.0;
+      is_handler = ap (slice_get handlers) same ∙ h.1;
+      leads = by_place p code state own doors kind _ _ refl refl k e d.0 h.0 (sym (get_or_from_slice_get own k d.0 d.0 d.1)) h.1;
+    }
+
+module _ (p : Protocol) (code : Code) (state first count : ℕ) (order : IsInOrder p code) (low : state < length p.states) (begins : first ≡ length (flat_map (λ (s : State). s.handlers) (take state p.states))) (many : count ≡ length (handlers_at (slice_get p.states state))) (own doors : List Door) (all : doors ≡ code.doors) (is : own ≡ take count (drop first doors)) (kind : Kind) where
+  own_is : own ≡ take count (drop first code.doors)
+  own_is = is ∙ ap (λ (ds : List Door). take count (drop first ds)) all
+
+  pub place_few : (k : ℕ) → IsAccepted p → place_for kind own ≡ Some k → first + k < 1024
+  place_few k a e =
+      omega (arith, doors_few p code a order, doors_there p code state first order low begins, place_within kind own k e, ap length own_is, length-take count (drop first code.doors), many)
+
+  pub found_place : (place : Place) (k : ℕ) → place_for kind own ≡ Some k → place.door ≡ first + k → place.handler ≡ k → StandsAt p code state kind place
+  found_place place k e at same =
+      stands_at p code state first count kind place k (state_doors p code state first order low begins count many) (ap (place_for kind) (sym own_is) ∙ e) at same
+
+  pub found_none : place_for kind own ≡ None → door_for code state kind ≡ None
+  found_none e =
+      no_door_for p code state (take count (drop first code.doors)) (state_doors p code state first order low begins count many) kind (ap (place_for kind) (sym own_is) ∙ e)

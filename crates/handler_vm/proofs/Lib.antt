@@ -8,4 +8,5 @@ mod Saving
 mod Sent
 mod Stacks
 mod Stopping
+mod Tabling
 mod Winding

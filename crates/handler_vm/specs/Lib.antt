@@ -7,3 +7,4 @@ pub mod Order
 pub mod Places
 pub mod Room
 pub mod Sending
+pub mod Tables

@@ -1,12 +1,22 @@
-ghost use Rattle.std.specs.Prelude.{◌≡◌, ◌+◌, ◌<◌, ◌≤◌, Some, IsSome, drop, length, position, slice_get, take};
-ghost use Rattle.std.specs.List.{flat_map};
-ghost use Rattle.handler_code.specs.Doors.{door_for, handlers_at, is_for, is_for_all_else, locals_of};
-ghost use Rattle.handler_vm.specs.Finding.{StateDoors, place_for};
+ghost use Rattle.std.specs.Prelude.{◌≡◌, ◌∷◌, ◌++◌, ◌+◌, ◌*◌, ◌<◌, [], Some, IfOk, IsSome, OnErr, OnOk, length, slice_get, true};
+ghost use Rattle.teapot_meaning.specs.Fits.{is_known};
+ghost use Rattle.handler_code.specs.Doors.{door_for, locals_of};
 ghost use Rattle.handler_vm.specs.Order.{IsInOrder};
+ghost use Rattle.handler_vm.specs.Tables.{IsRight, IsTableOf, column_of, kind_at};
 
-use handler_code::{Code, Door, Kind2};
-use teapot_tree::{Checked, Handler, State};
-use tw_base::Kind;
+use crate::search::{handlers_at, place_of};
+use handler_code::{Code, Door};
+use std::alloc::Global;
+use std::marker::Model;
+use teapot_tree::{Checked, Handler};
+use tw_base::{Kind, Listed, Memory};
+
+/// Where a door stands among those of the code, and its handler among those of its state.
+#[derive(Clone, Copy, Debug, PartialEq, Eq)]
+pub struct Place {
+    pub door: u16,
+    pub handler: u16,
+}
 
 /// A door of the code, and the handler that it leads to.
 #[derive(Drop)]
@@ -15,99 +25,112 @@ pub(crate) struct Entry<'a> {
     pub handler: &'a Handler,
 }
 
-fn is_for(kind: Kind, on: Kind2) -> bool
-    ensures { result ≡ is_for kind on }
+/// The doors of a protocol's code by state and kind of message: a column for each kind, the columns of a state one after
+/// another, and one state behind the other.
+#[derive(Drop)]
+pub struct Doors {
+    kinds: usize,
+    places: Listed<Option<Place>>,
+}
+
+impl Model for Doors {
+    ghost use Rattle.handler_vm.specs.Tables.{Table};
+
+    ghost Value = { Table };
+
+    ghost view = { λ d. record { kinds = d.kinds; places = d.places } };
+}
+
+fn column(kind: Kind) -> usize
+    ensures { result ≡ column_of kind }
 {
-    match (kind, on) {
-        (Kind::RdFault, Kind2::RdFault) => true,
-        (Kind::WrFault, Kind2::WrFault) => true,
-        (Kind::Named(n), Kind2::Named(m)) => m == n,
-        _ => false,
+    match kind {
+        Kind::RdFault => 0,
+        Kind::WrFault => 1,
+        Kind::Named(n) => usize::from(n) + 2,
     }
 }
 
-fn is_for_all_else(on: Kind2) -> bool
-    ensures { result ≡ is_for_all_else on }
+fn kind_at(column: u8) -> Kind
+    ensures { result ≡ kind_at column }
 {
-    matches!(on, Kind2::Default)
-}
-
-fn own_place(kind: Kind, doors: &[Door]) -> Option<usize>
-    ensures { result ≡ position (λ d. is_for kind d.on) doors.now }
-{
-    doors.iter().position(|d| is_for(kind, d.on))
-}
-
-fn default_place(doors: &[Door]) -> Option<usize>
-    ensures { result ≡ position (λ d. is_for_all_else d.on) doors.now }
-{
-    doors.iter().position(|d| is_for_all_else(d.on))
-}
-
-/// The place of the door for a message of this kind among a state's doors, else that of the default.
-fn place_for(kind: Kind, doors: &[Door]) -> Option<usize>
-    ensures { result ≡ place_for kind doors.now }
-{
-    match own_place(kind, doors) {
-        Some(place) => Some(place),
-        None => default_place(doors),
+    match column {
+        0 => Kind::RdFault,
+        1 => Kind::WrFault,
+        n => Kind::Named(n - 2),
     }
 }
 
-/// How many handlers these states have.
-fn handlers_in(states: &[State]) -> usize
-    requires { length (flat_map (λ s. s.handlers) states.now) ≤ 1024 }
-    ensures { result ≡ length (flat_map (λ s. s.handlers) states.now) }
+fn push_place(places: &mut Listed<Option<Place>>, place: Option<Place>) -> Result<(), Memory>
+    ensures { OnOk result (places.new ≡ places.old ++ place ∷ []) }
 {
-    let mut count = 0;
-    for state in states {
-        count += state.handlers.len();
-    }
-    count
+    places.push(place)
 }
 
-/// So many doors from a place on.
-fn doors_from(doors: &[Door], first: usize, count: usize) -> &[Door]
-    requires { first + count ≤ length doors.now }
-    ensures { result.now ≡ take count (drop first doors.now) }
-{
-    &doors[first..first + count]
-}
-
-fn handlers_at(p: &Checked, state: u8) -> &[Handler]
-    requires { state < length p.now.states }
-    ensures { result.now ≡ handlers_at (slice_get p.now.states state) }
-{
-    p.protocol().states.items()[usize::from(state)]
-        .handlers
-        .items()
-}
-
-/// The doors of a state, which begin behind those of the states before it.
-fn doors_at<'a>(code: &'a Code, p: &Checked, state: u8) -> &'a [Door]
+/// The places of all states and columns.
+fn places_of(
+    alloc: Global,
+    code: &Code,
+    p: &Checked,
+    states: usize,
+    kinds: usize,
+) -> Result<Listed<Option<Place>>, Memory>
     requires order { IsInOrder p.now code.now }
-    requires declared { state < length p.now.states }
-    ensures { StateDoors p.now code.now state (handlers_at (slice_get p.now.states state)) result.now }
+    requires states { states ≡ length p.now.states }
+    requires kinds { kinds ≡ length p.now.messages + 2 }
+    ensures many { IfOk result (λ places. length places ≡ states * kinds) }
+    ensures leads { IfOk result (λ places. IsRight p.now code.now kinds places) }
 {
-    let states = p.protocol().states.items();
-    let before = handlers_in(&states[..usize::from(state)]);
-    doors_from(code.doors.items(), before, handlers_at(p, state).len())
+    let _protocol = p.protocol();
+    let mut places = Listed::new(alloc);
+    for index in 0..states * kinds {
+        let state = (index / kinds) as u8;
+        let kind = kind_at((index % kinds) as u8);
+        push_place(&mut places, place_of(code, p, state, kind))?;
+    }
+    Ok(places)
+}
+
+impl Doors {
+    /// Finds the door of each kind of message in each state of the protocol, for as long as its code is run.
+    pub fn new(alloc: Global, code: &Code, p: &Checked) -> Result<Doors, Memory>
+        requires { IsInOrder p.now code.now }
+        ensures { IfOk result (λ d. IsTableOf p.now code.now d) }
+    {
+        let states = p.protocol().states.len();
+        let kinds = p.protocol().messages.len() + 2;
+        let places = places_of(alloc, code, p, states, kinds)?;
+        Ok(Doors { kinds, places })
+    }
+
+    fn place(&self, state: u8, kind: Kind) -> Option<Place>
+        requires { state * self.now.kinds + column_of kind < length self.now.places }
+        ensures { slice_get self.now.places (state * self.now.kinds + column_of kind) ≡ Some result }
+    {
+        self.places.items()[usize::from(state) * self.kinds + column(kind)]
+    }
 }
 
 /// The state's door for a message of this kind, else its default, and the handler at the same place in the state.
-pub(crate) fn entry_for<'a>(code: &'a Code, p: &'a Checked, state: u8, kind: Kind) -> Entry<'a>
+pub(crate) fn entry_for<'a>(
+    code: &'a Code,
+    doors: &Doors,
+    p: &'a Checked,
+    state: u8,
+    kind: Kind,
+) -> Entry<'a>
+    requires doors { IsTableOf p.now code.now doors.now }
     requires order { IsInOrder p.now code.now }
+    requires known { is_known p.now kind ≡ true }
     requires opens { IsSome (door_for code.now state kind) }
     ensures door { door_for code.now state kind ≡ Some result.door.now }
     ensures locals { result.handler.now.locals ≡ locals_of p.now result.door.now }
     ensures declared { state < length p.now.states }
 {
-    let doors = doors_at(code, p, state);
-    let handlers = handlers_at(p, state);
-    match place_for(kind, doors) {
+    match doors.place(state, kind) {
         Some(place) => Entry {
-            door: &doors[place],
-            handler: &handlers[place],
+            door: &code.doors.items()[usize::from(place.door)],
+            handler: &handlers_at(p, state)[usize::from(place.handler)],
         },
         None => unreachable!(),
     }

@@ -17,6 +17,7 @@ mod laws;
 mod machine;
 mod records;
 mod running;
+mod search;
 mod sends;
 mod sets;
 mod step;
@@ -25,5 +26,6 @@ mod work;
 
 pub use around::Around;
 pub use cell::{Cell, Ran};
+pub use doors::Doors;
 pub use laws::chains_stay_apart;
 pub use machine::run;

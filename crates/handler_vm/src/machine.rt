@@ -1,4 +1,5 @@
-ghost use Rattle.std.specs.Prelude.{◌≡◌, ◌<◌, ◌≤◌, length, Some};
+ghost use Rattle.std.specs.Prelude.{◌≡◌, ◌<◌, ◌≤◌, length, Some, true};
+ghost use Rattle.teapot_meaning.specs.Fits.{is_known};
 ghost use Rattle.block_tags.specs.Copies.{block_words, tag_of};
 ghost use Rattle.handler_code.specs.Doors.{door_for, entered, filled, locals_of};
 ghost use Rattle.handler_code.specs.Machine.{Runs, Stopped, state_arity};
@@ -7,10 +8,11 @@ ghost use Rattle.handler_vm.specs.Inside.{begun};
 ghost use Rattle.handler_vm.specs.Leaves.{Leaves, Stops, StopsAt, kept_of};
 ghost use Rattle.handler_vm.specs.Order.{IsInOrder};
 ghost use Rattle.handler_vm.specs.Room.{HasRoom};
+ghost use Rattle.handler_vm.specs.Tables.{IsTableOf};
 
 use crate::around::Around;
 use crate::cell::{Cell, Ran};
-use crate::doors::{Entry, entry_for};
+use crate::doors::{Doors, Entry, entry_for};
 use crate::enter::slots_at;
 use crate::running::Running;
 use crate::values::{Args, Operands};
@@ -134,6 +136,7 @@ fn run_at(
 /// of ops comes to.
 pub fn run(
     code: &Code,
+    doors: &Doors,
     p: &Checked,
     cell: &mut Cell,
     blocks: &mut Blocks,
@@ -144,7 +147,9 @@ pub fn run(
     around: &mut Around,
 ) -> Ran
     requires room { HasRoom p.now code.now }
+    requires doors { IsTableOf p.now code.now doors.now }
     requires order { IsInOrder p.now code.now }
+    requires known { is_known p.now m.now.kind ≡ true }
     requires stops { Stops p.now code.now me home cell.old blocks.old conts.old m.now }
     requires chain { IsChain blocks.old.shape.words conts.old cell.old.cont }
     requires spare { 1 ≤ conts.old.spare }
@@ -159,6 +164,6 @@ pub fn run(
     ensures room { around.new.room ≡ around.old.room }
 {
     stops_once();
-    let entry = entry_for(code, p, cell.state, m.kind);
+    let entry = entry_for(code, doors, p, cell.state, m.kind);
     run_at(code, p, &entry, cell, blocks, conts, me, home, m, around)
 }

@@ -43,3 +43,6 @@ returns-clause-few c =
     let s = c.requires.stands in
     let soon = stops_soon c.args.p.now c.args.code.now lawful c.args.me c.args.home c.args.cell.now c.args.blocks.now c.args.conts.now c.args.m.now c.shape-shape.ensures.whole c.requires.block c.requires.message s.0 s.1 s.2 s.3 c.requires.short in
     subst (λ (n : ℕ). n ≤ 2 ^ 62) (sym (ap (λ r. r.ops) (c.run.ensures.leaves soon.stop soon.stops).result)) soon.ops
+
+pub run-requires-clause-known : goal.run-requires-clause-known
+run-requires-clause-known c = c.requires.message.known

@@ -1,6 +1,6 @@
 use Rattle.std.proofs.Common.{◌≡◌, ◌+◌, drop, length}
 use Rattle.std.specs.List.{flat_map}
-use Rattle.handler_vm.proofs.doors.handlers_in.Given as goal
+use Rattle.handler_vm.proofs.search.handlers_in.Given as goal
 
 -- the handlers counted, and those of the states that are left, are all
 abbrev pub invariant-loop-state : goal.invariant-loop-state
