@@ -8,7 +8,5 @@ mod Deferring
 mod Posting
 mod Keeping
 mod FirstSound
-mod SameMessage
 mod Redelivering
 mod Counting
-mod Going

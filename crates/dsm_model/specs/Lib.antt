@@ -4,4 +4,3 @@ pub mod Views
 pub mod Kept
 pub mod Makes
 pub mod Posts
-pub mod Begun

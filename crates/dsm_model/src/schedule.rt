@@ -2,7 +2,7 @@ ghost use Rattle.std.specs.Prelude.{◌≡◌, ◌∷◌, ◌++◌, ◌<◌, tru
 ghost use Rattle.std.specs.List.{filter};
 ghost use Rattle.tw_base.specs.declared.entry.Event.TheVariants as event;
 ghost use Rattle.tw_base.specs.declared.entry.Entry.{Entry};
-ghost use Rattle.dsm_model.specs.Begun.{HasBegun};
+ghost use Rattle.dsm_runs.specs.Begun.{HasBegun};
 ghost use Rattle.dsm_model.specs.Globals.{setup_of, world_of};
 ghost use Rattle.dsm_runs.specs.Schedules.{Advances, Settles, chosen, deliveries, enabled_events, node_events};
 ghost use Rattle.dsm_runs.specs.Tests.{has_eligible, is_enabled, may_handle};

@@ -27,3 +27,5 @@ pub mod Repeating
 pub mod FlatBeside
 pub mod Enabling
 pub mod Sharing
+pub mod SameMessage
+pub mod Stepping

@@ -10,6 +10,7 @@ use Rattle.tw_base.specs.declared.entry.Event.TheVariants as event
 use Rattle.tw_base.specs.declared.message.Chan.{Chan}
 use Rattle.tw_base.specs.declared.message.Chan.TheVariants.{Zero, One}
 use Rattle.dsm_runs.specs.Laws.{Some_of}
+use Rattle.dsm_runs.specs.Begun.{HasBegun}
 use Rattle.dsm_runs.specs.Setups.{Setup}
 use Rattle.dsm_runs.specs.Schedules.{Advances, Settles, all_events, chosen, deliveries, enabled_events, events_below, node_events}
 use Rattle.dsm_runs.specs.Tests.{is_enabled}
@@ -64,7 +65,7 @@ none_passes p (x ∷ xs) e none h pass = go (p x) refl none h (λ f r. none_pass
     go false q f (inl same) more = let bad : p x ≡ true = ap p same ∙ pass in cc
     go false q f (inr rest) more = more f rest
 
-quiet_is : (s : Setup) (g : World) → enabled_events s g ≡ [] → IsQuiet s g
+pub quiet_is : (s : Setup) (g : World) → enabled_events s g ≡ [] → IsQuiet s g
 quiet_is s g none e h = none_passes (is_enabled s g) (all_events s.shape.nodes) e none (has_enabled s g e h) ((enabled_decides s g e).1 h)
 
 -- ---- one run
@@ -97,28 +98,17 @@ settles_one s stride t g (e ∷ es) (f ∷ fs) h k p q =
 
 -- ---- a schedule from its beginning
 
--- From g the first of its entries lead to h, where t were made before.
-pub Begins : Setup → ℕ → ℕ → World → List Entry → World → Type 0
-Begins s stride t g [] h = g ≡ h
-Begins s stride t g (e ∷ es) h = (chosen stride t (enabled_events s g) ≡ Some (event_of e)) × (mid : World) × Step s g e mid × Begins s stride (suc t) mid es h
-
-pub begins_none : (s : Setup) (stride t : ℕ) (g : World) → Begins s stride t g [] g
-unfolding Begins
-begins_none s stride t g = refl
-
-pub begins_more : (s : Setup) (stride t : ℕ) (g : World) (es : List Entry) (h : World) (e : Entry) (k : World) → Begins s stride t g es h → chosen stride (t + length es) (enabled_events s h) ≡ Some (event_of e) → Step s h e k → Begins s stride t g (es ++ e ∷ []) k
-unfolding Begins
-begins_more s stride t g [] h e k b c r =
+pub begun_more : (s : Setup) (stride t : ℕ) (g : World) (es : List Entry) (h : World) (e : Entry) (k : World) → HasBegun s stride t g es h → chosen stride (t + length es) (enabled_events s h) ≡ Some (event_of e) → Step s h e k → HasBegun s stride t g (es ++ e ∷ []) k
+begun_more s stride t g [] h e k b c r =
     let here : t + 0 ≡ t = omega arith in
     (subst (λ j. chosen stride j (enabled_events s g) ≡ Some (event_of e)) here (subst (λ (x : World). chosen stride (t + 0) (enabled_events s x) ≡ Some (event_of e)) (sym b) c), k, subst (λ (x : World). Step s x e k) (sym b) r, refl)
-begins_more s stride t g (x ∷ es) h e k b c r =
+begun_more s stride t g (x ∷ es) h e k b c r =
     let next : t + suc (length es) ≡ suc t + length es = omega arith in
-    (b.0, b.1, b.2, begins_more s stride (suc t) b.1 es h e k b.3 (subst (λ j. chosen stride j (enabled_events s h) ≡ Some (event_of e)) next c) r)
+    (b.0, b.1, b.2, begun_more s stride (suc t) b.1 es h e k b.3 (subst (λ j. chosen stride j (enabled_events s h) ≡ Some (event_of e)) next c) r)
 
-pub begins_settles : (s : Setup) (stride t : ℕ) (g : World) (es : List Entry) (h : World) → Begins s stride t g es h → enabled_events s h ≡ [] → Settles s stride t g es h
-unfolding Begins
-begins_settles s stride t g [] h b none = (b, subst (λ (x : World). enabled_events s x ≡ []) (sym b) none)
-begins_settles s stride t g (e ∷ es) h b none = (b.0, b.1, b.2, begins_settles s stride (suc t) b.1 es h b.3 none)
+pub begun_settles : (s : Setup) (stride t : ℕ) (g : World) (es : List Entry) (h : World) → HasBegun s stride t g es h → enabled_events s h ≡ [] → Settles s stride t g es h
+begun_settles s stride t g [] h b none = (b, subst (λ (x : World). enabled_events s x ≡ []) (sym b) none)
+begun_settles s stride t g (e ∷ es) h b none = (b.0, b.1, b.2, begun_settles s stride (suc t) b.1 es h b.3 none)
 
 -- ---- the event that is taken
 
@@ -143,13 +133,17 @@ none_left stride t (x ∷ xs) h =
     absurd (cc (there, h))
 
 -- a turn of the schedule
-pub settles_at : (s s2 : Setup) (stride turn : ℕ) (g g2 h : World) (es : List Entry) (o : Option Entry) → s2 ≡ s → length es ≡ turn → Begins s stride 0 g es g2 → o ≡ None → Advances s2 stride turn g2 o h → Settles s stride 0 g es h
+pub settles_at : (s s2 : Setup) (stride turn : ℕ) (g g2 h : World) (es : List Entry) (o : Option Entry) → s2 ≡ s → length es ≡ turn → HasBegun s stride 0 g es g2 → o ≡ None → Advances s2 stride turn g2 o h → Settles s stride 0 g es h
 settles_at s s2 stride turn g g2 h es o same count b none adv =
     let over : Advances s stride turn g2 None h = subst (λ (x : Option Entry). Advances s stride turn g2 x h) none (subst (λ (x : Setup). Advances x stride turn g2 o h) same adv) in
-    begins_settles s stride 0 g es h (subst (λ (x : World). Begins s stride 0 g es x) over.0 b) (subst (λ (x : World). enabled_events s x ≡ []) over.0 over.1)
+    begun_settles s stride 0 g es h (subst (λ (x : World). HasBegun s stride 0 g es x) over.0 b) (subst (λ (x : World). enabled_events s x ≡ []) over.0 over.1)
 
-pub begins_at : (s s2 : Setup) (stride turn : ℕ) (g g2 h : World) (es : List Entry) (o : Option Entry) (e : Entry) → s2 ≡ s → length es ≡ turn → Begins s stride 0 g es g2 → o ≡ Some e → Advances s2 stride turn g2 o h → Begins s stride 0 g (es ++ e ∷ []) h
-begins_at s s2 stride turn g g2 h es o e same count b some adv =
+pub begun_at : (s s2 : Setup) (stride turn : ℕ) (g g2 h : World) (es : List Entry) (o : Option Entry) (e : Entry) → s2 ≡ s → length es ≡ turn → HasBegun s stride 0 g es g2 → o ≡ Some e → Advances s2 stride turn g2 o h → HasBegun s stride 0 g (es ++ e ∷ []) h
+begun_at s s2 stride turn g g2 h es o e same count b some adv =
     let made : Advances s stride turn g2 (Some e) h = subst (λ (x : Option Entry). Advances s stride turn g2 x h) some (subst (λ (x : Setup). Advances x stride turn g2 o h) same adv) in
     let now : turn ≡ 0 + length es = omega (arith, count) in
-    begins_more s stride 0 g es g2 e h b (subst (λ k. chosen stride k (enabled_events s g2) ≡ Some (event_of e)) now made.0) made.1
+    begun_more s stride 0 g es g2 e h b (subst (λ k. chosen stride k (enabled_events s g2) ≡ Some (event_of e)) now made.0) made.1
+
+-- nothing was made
+pub begun_still : (s : Setup) (stride : ℕ) (g g2 h : World) (es : List Entry) → h ≡ g2 → HasBegun s stride 0 g es g2 → HasBegun s stride 0 g es h
+begun_still s stride g g2 h es same b = subst (λ (x : World). HasBegun s stride 0 g es x) (sym same) b

@@ -13,4 +13,5 @@ pub mod Tests
 pub mod Invariants
 pub mod Outcomes
 pub mod Schedules
+pub mod Begun
 pub mod Shown

@@ -1,5 +1,5 @@
 use Rattle.std.proofs.Common.{refl}
-use Rattle.dsm_model.proofs.SameMessage.{same_message}
+use Rattle.dsm_runs.proofs.SameMessage.{same_message}
 use Rattle.dsm_model.proofs.outbox.with_number.Goals as goal
 
 pub returns : goal.returns

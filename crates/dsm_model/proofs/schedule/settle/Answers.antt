@@ -1,9 +1,8 @@
 use Rattle.std.proofs.Common.{◌≡◌, ◌∷◌, ◌++◌, [], List, None, length, length-append, rules, refl, ap, sym, ◌∙◌, subst, arith}
 use Rattle.tw_base.specs.declared.entry.Entry.{Entry}
-use Rattle.dsm_model.specs.Begun.{HasBegun}
+use Rattle.dsm_runs.specs.Begun.{HasBegun}
 use Rattle.dsm_model.specs.Globals.{setup_of, world_of}
-use Rattle.dsm_runs.proofs.Scheduling.{Begins, begins_at, begins_none, settles_at}
-use Rattle.dsm_model.proofs.Going.{begun_at, begun_still}
+use Rattle.dsm_runs.proofs.Scheduling.{begun_at, begun_still, settles_at}
 use Rattle.dsm_model.proofs.Posting.{on_err}
 use Rattle.dsm_model.proofs.schedule.settle.Goals as goal
 
@@ -14,7 +13,6 @@ loop-turn-init c =
     record {
       setup = refl;
       count = ap (λ (es : List Entry). length es) c.new-entries.ensures;
-      begins = subst (λ (es : List Entry). Begins s c.args.stride 0 g es g) (sym c.new-entries.ensures) (begins_none s c.args.stride 0 g);
       begun = subst (λ (es : List Entry). HasBegun s c.args.stride 0 g es g) (sym c.new-entries.ensures) refl;
     }
 
@@ -36,7 +34,7 @@ pub returns-in_default-clause-settles : goal.returns-in_default-clause-settles
 returns-in_default-clause-settles c =
     let none : c.in_ok-entry.field-0 ≡ None = search rules in
     settles_at (setup_of c.args.g.now) (setup_of c.loop-turn.g) c.args.stride c.loop-turn.turn (world_of c.args.g.now) (world_of c.loop-turn.g) (world_of c.advance.new.g) c.loop-turn.entries c.in_ok-entry.field-0
-    c.loop-turn.invariant.setup c.loop-turn.invariant.count c.loop-turn.invariant.begins none c.in_ok-entry.ensures.step
+    c.loop-turn.invariant.setup c.loop-turn.invariant.count c.loop-turn.invariant.begun none c.in_ok-entry.ensures.step
 
 pub loop-turn-preserved : goal.loop-turn-preserved
 loop-turn-preserved c =
@@ -46,9 +44,6 @@ loop-turn-preserved c =
     record {
       setup = c.in_ok-entry.ensures.setup ∙ c.loop-turn.invariant.setup;
       count = omega (arith, ap (λ (es : List Entry). length es) c.in_ok-push_entry.ensures, length-append c.loop-turn.entries (e ∷ []), c.loop-turn.invariant.count);
-      begins = subst (λ (es : List Entry). Begins s c.args.stride 0 g es (world_of c.advance.new.g)) (sym c.in_ok-push_entry.ensures)
-          (begins_at s (setup_of c.loop-turn.g) c.args.stride c.loop-turn.turn g (world_of c.loop-turn.g) (world_of c.advance.new.g) c.loop-turn.entries c.in_ok-entry.field-0 e
-          c.loop-turn.invariant.setup c.loop-turn.invariant.count c.loop-turn.invariant.begins c.in-Some.is c.in_ok-entry.ensures.step);
       begun = subst (λ (es : List Entry). HasBegun s c.args.stride 0 g es (world_of c.advance.new.g)) (sym c.in_ok-push_entry.ensures)
           (begun_at s (setup_of c.loop-turn.g) c.args.stride c.loop-turn.turn g (world_of c.loop-turn.g) (world_of c.advance.new.g) c.loop-turn.entries c.in_ok-entry.field-0 e
           c.loop-turn.invariant.setup c.loop-turn.invariant.count c.loop-turn.invariant.begun c.in-Some.is c.in_ok-entry.ensures.step);
