@@ -3,7 +3,6 @@ pub mod Meaning
 pub mod Offering
 pub mod Ordering
 pub mod Posting
-mod SameMessage
 mod Staying
 pub mod Widening
 pub mod Widths

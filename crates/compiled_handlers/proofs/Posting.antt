@@ -17,7 +17,7 @@ use Rattle.dsm_runs.specs.Args.{padded_args, used_args}
 use Rattle.dsm_runs.specs.Messages.{chan_of, declared_chan, message_of}
 use Rattle.handler_vm.specs.Chains.{IsFull}
 use Rattle.handler_vm.specs.Sending.{IsUnsent, chan_in, out_of}
-use Rattle.compiled_handlers.proofs.SameMessage.{same_message}
+use Rattle.dsm_runs.proofs.SameMessage.{same_message}
 
 -- ---- messages as they are sent
 
