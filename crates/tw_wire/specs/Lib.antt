@@ -1,0 +1,7 @@
+pub mod Carries
+pub mod Places
+pub mod Sides
+pub mod Wires
+pub mod Made
+pub mod Joined
+pub mod Lending
