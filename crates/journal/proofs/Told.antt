@@ -1,5 +1,5 @@
 -- The words that are told, where every word can be read and all who read it agree.
-use Rattle.std.proofs.Common.{◌≡◌, ℕ, ◌+◌, ◌<◌, true, false, Option, Some, None, arith, refl, sym}
+use Rattle.std.proofs.Common.{◌≡◌, ℕ, ◌+◌, ◌<◌, Bool, true, false, Option, Some, None, arith, refl, sym}
 use Rattle.std.specs.Prelude.{unwrap_or}
 use Rattle.std.proofs.lemmas.List.FromFn.{fill_by_all}
 use Rattle.tw_base.specs.declared.value.Tag.{Tag}
@@ -7,11 +7,17 @@ use Rattle.tw_base.specs.declared.value.Tag.TheVariants.{Invalid, ReadOnly, Read
 use Rattle.block_tags.specs.Copies.{permits}
 use Rattle.dsm_runs.specs.Setups.{Setup, block_of, home_of, size_of}
 use Rattle.dsm_runs.specs.Worlds.{World}
-use Rattle.journal.specs.Gathered.{least_node, teller, told_word}
+use Rattle.journal.specs.Gathered.{least_with, tag_in, teller_by, told_by, word_in}
 use Rattle.journal.specs.Unbroken.{ReadWordsAreTold}
 use Rattle.journal.proofs.Seeking.{missed, passes, within}
 
 -- ---- the node that is asked
+
+abbrev least_node : Setup → World → ℕ → Bool → Option ℕ
+least_node s g b store = least_with s.shape.nodes (λ i. tag_in g i b) store
+
+abbrev teller : Setup → World → ℕ → ℕ
+teller s g b = teller_by s.shape (tag_in g) b
 
 stores_load : (t : Tag) → permits t true ≡ true → permits t false ≡ true
 stores_load ReadWrite h = refl
@@ -32,7 +38,7 @@ teller_reads s g b i li may = writer (least_node s g b true) refl
 
 pub read_words_are_told : ReadWordsAreTold
 read_words_are_told s g words long some agree =
-    sym (fill_by_all (told_word s g) words (size_of s) 0 long (λ a lt.
+    sym (fill_by_all (told_by s.shape (tag_in g) (word_in s g)) words (size_of s) 0 long (λ a lt.
     let it = some a lt in
     let asked = teller_reads s g (block_of s a) it.node it.within it.may in
     sym (agree (teller s g (block_of s a)) a asked.0 lt asked.1)))

@@ -1,21 +1,30 @@
-ghost use Rattle.std.specs.Prelude.{◌≡◌, ◌<◌, map, IfOk};
-ghost use Rattle.std.specs.List.{range_with_len};
-ghost use Rattle.dsm_model.specs.Globals.{setup_of, world_of};
-ghost use Rattle.dsm_runs.specs.Setups.{size_of};
-ghost use Rattle.journal.specs.Gathered.{least_node, teller, told_word, words_of};
+ghost use Rattle.std.specs.Prelude.{◌≡◌, ◌*◌, ◌<◌, IfOk};
+ghost use Rattle.block_tags.specs.Copies.{permits};
+ghost use Rattle.journal.specs.Gathered.{least_with, teller_by, told_by, told_words};
 
-use dsm_model::Global;
-use std::alloc;
-use tw_base::{BlockId, Listed, Memory, NodeId};
+use crate::Nodes;
+use std::alloc::Global;
+use tw_base::{BlockId, Listed, Memory, NodeId, Tag};
+
+// Whether a tag permits a store, or a load.
+fn permits(tag: Tag, store: bool) -> bool
+    ensures { result ≡ permits tag store }
+{
+    match tag {
+        Tag::Invalid => false,
+        Tag::ReadOnly => !store,
+        Tag::ReadWrite => true,
+    }
+}
 
 // The least node whose tag of a block permits a store or a load.
-fn least_node(g: &Global, block: BlockId, store: bool) -> Option<NodeId>
-    requires { block < (setup_of g.now).shape.blocks }
-    ensures { result ≡ least_node (setup_of g.now) (world_of g.now) block store }
+fn least_node<N: Nodes>(nodes: &N, block: BlockId, store: bool) -> Option<NodeId>
+    requires { block < (N.shape nodes.now).blocks }
+    ensures { result ≡ least_with (N.shape nodes.now).nodes (λ i. N.tag nodes.now i block) store }
 {
-    for number in 0..g.setup().shape().nodes() {
+    for number in 0..nodes.shape().nodes() {
         let node = NodeId::new(number).unwrap();
-        if g.permits(node, block, store) {
+        if permits(nodes.tag(node, block), store) {
             return Some(node);
         }
     }
@@ -23,36 +32,36 @@ fn least_node(g: &Global, block: BlockId, store: bool) -> Option<NodeId>
 }
 
 // The node whose copy of a block is told.
-fn teller(g: &Global, block: BlockId) -> NodeId
-    requires { block < (setup_of g.now).shape.blocks }
-    ensures value { result ≡ teller (setup_of g.now) (world_of g.now) block }
-    ensures node { result < (setup_of g.now).shape.nodes }
+fn teller<N: Nodes>(nodes: &N, block: BlockId) -> NodeId
+    requires { block < (N.shape nodes.now).blocks }
+    ensures value { result ≡ teller_by (N.shape nodes.now) (N.tag nodes.now) block }
+    ensures node { result < (N.shape nodes.now).nodes }
 {
-    if let Some(writer) = least_node(g, block, true) {
+    if let Some(writer) = least_node(nodes, block, true) {
         return writer;
     }
-    match least_node(g, block, false) {
+    match least_node(nodes, block, false) {
         Some(reader) => reader,
-        None => g.setup().shape().home(block),
+        None => nodes.shape().home(block),
     }
 }
 
-fn told_word(g: &Global, address: u32) -> u64
-    requires { address < size_of (setup_of g.now) }
-    ensures { result ≡ told_word (setup_of g.now) (world_of g.now) address }
+fn told_word<N: Nodes>(nodes: &N, address: u32) -> u64
+    requires { address < (N.shape nodes.now).words * (N.shape nodes.now).blocks }
+    ensures { result ≡ told_by (N.shape nodes.now) (N.tag nodes.now) (N.word nodes.now) address }
 {
-    let (block, _) = g.setup().shape().place_of(u64::from(address)).unwrap();
-    g.word(teller(g, block), address)
+    let (block, _) = nodes.shape().place_of(u64::from(address)).unwrap();
+    nodes.word(teller(nodes, block), address)
 }
 
 /// The words of memory, by address: each from the node of least number that may write its block, else of least number
 /// that may read it, else from its home.
-pub fn words_of(alloc: alloc::Global, g: &Global) -> Result<Listed<u64>, Memory>
-    ensures { IfOk result (λ words. words ≡ words_of (setup_of g.now) (world_of g.now)) }
+pub fn words_of<N: Nodes>(alloc: Global, nodes: &N) -> Result<Listed<u64>, Memory>
+    ensures { IfOk result (λ words. words ≡ told_words (N.shape nodes.now) (N.tag nodes.now) (N.word nodes.now)) }
 {
     let mut words = Listed::new(alloc);
-    for address in 0..g.setup().shape().size() {
-        words.push(told_word(g, address))?;
+    for address in 0..nodes.shape().size() {
+        words.push(told_word(nodes, address))?;
     }
     Ok(words)
 }

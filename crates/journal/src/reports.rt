@@ -3,7 +3,7 @@ ghost use Rattle.std.specs.List.{flat_map, enumerate_from};
 ghost use Rattle.journal.specs.Reports.{count_line, event_line, head, history_line, if_asked, node_line, report_of};
 
 use crate::events::{add_events, add_prints};
-use crate::nodes::{add_all_registers, add_counts, add_nodes, add_words};
+use crate::node_lines::{add_all_registers, add_counts, add_nodes, add_words};
 use crate::{Break, Final};
 use dsm_runs::Setup;
 use printed_text::{Names, Text};

@@ -1,6 +1,6 @@
 use Rattle.journal.specs.Reports.{register_line}
 use Rattle.printed_text.proofs.Enumerating.{flat_map-enumerate_from-more, grown_by}
-use Rattle.journal.proofs.nodes.add_registers.Goals as goal
+use Rattle.journal.proofs.node_lines.add_registers.Goals as goal
 
 pub loop-register-preserved : goal.loop-register-preserved
 loop-register-preserved c =

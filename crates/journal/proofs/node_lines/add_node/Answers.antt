@@ -5,7 +5,7 @@ use Rattle.std.proofs.lemmas.Result.{on_ok_weaker}
 use Rattle.journal.specs.Reports.{outcome_words}
 use Rattle.printed_text.specs.Lines.{spaced}
 use Rattle.printed_text.proofs.Lines.{line-made}
-use Rattle.journal.proofs.nodes.add_node.Goals as goal
+use Rattle.journal.proofs.node_lines.add_node.Goals as goal
 
 abbrev rest_of : List ℕ → List ℕ → List ℕ → List (List ℕ)
 rest_of place instructions handled = codes "place" ∷ place ∷ codes "instructions" ∷ instructions ∷ codes "handlers" ∷ handled ∷ []

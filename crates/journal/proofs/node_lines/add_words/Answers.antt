@@ -1,6 +1,6 @@
 use Rattle.journal.specs.Reports.{word_line}
 use Rattle.printed_text.proofs.Enumerating.{flat_map-enumerate_from-more, grown_by}
-use Rattle.journal.proofs.nodes.add_words.Goals as goal
+use Rattle.journal.proofs.node_lines.add_words.Goals as goal
 
 pub loop-address-preserved : goal.loop-address-preserved
 loop-address-preserved c =

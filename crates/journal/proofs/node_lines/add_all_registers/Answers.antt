@@ -1,6 +1,6 @@
 use Rattle.journal.specs.Reports.{register_lines}
 use Rattle.printed_text.proofs.Enumerating.{flat_map-enumerate_from-more, grown_by}
-use Rattle.journal.proofs.nodes.add_all_registers.Goals as goal
+use Rattle.journal.proofs.node_lines.add_all_registers.Goals as goal
 
 pub loop-node-preserved : goal.loop-node-preserved
 loop-node-preserved c =
