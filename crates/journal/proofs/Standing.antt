@@ -1,6 +1,6 @@
 -- Words and ends that are those of a state of the model are told as that state's.
 use Rattle.std.proofs.Common.{◌≡◌, ℕ, zero, suc, ◌+◌, ◌*◌, ◌/◌, ◌%◌, ◌<◌, Bool, true, false, cond, find, map, Option, Some}
-use Rattle.std.proofs.Common.{None, ◌∷◌, refl, ap, sym, subst, ◌∙◌, arith, mul_comm}
+use Rattle.std.proofs.Common.{None, ◌∷◌, refl, ap, subst, ◌∙◌, arith, mul_comm}
 use Rattle.std.specs.Prelude.{unwrap_or}
 use Rattle.std.specs.List.{range_with_len}
 use Rattle.std.proofs.Math.Nat.{div-lt_iff_lt-mul, mod-lt}
