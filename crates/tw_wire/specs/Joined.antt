@@ -25,6 +25,10 @@ joined [] ls = []
 joined (t ∷ ts) [] = []
 joined (t ∷ ts) (l ∷ ls) = (t ++ l) ∷ joined ts ls
 
+-- on each of these wires what was taken and then what is left is what was sent
+abbrev pub AreJoinedEnds : List Sending → List Receiving → List (List Message) → Type 0
+AreJoinedEnds sends recvs left = map (λ s. s.sent) sends ≡ joined (map (λ r. r.taken) recvs) left
+
 -- two of each list
 abbrev pub two_each : {A : Type 0} → List (List A) → List A
 two_each columns = flat_map (λ xs. take 2 xs) columns
@@ -45,7 +49,8 @@ AreJoined m n sends columns left =
     × ((f t : ℕ) (c : Chan) → f < m → t < n
     → sent_of (item_at sends f t c) ≡ taken_of (item_at columns t f c) ++ left_at n left f t c)
 
--- to these lists were added those of what is left on the wires of the first m senders
-abbrev pub AddsLeft : ℕ → List (List Sending) → List (List Receiving) → List (Vec Message) → List (Vec Message) → Type 0
-AddsLeft m sends columns old new =
-    (more : List (List Message)) × (lists new ≡ lists old ++ more) × AreJoined m (length columns) sends columns more
+-- to these lists were added those of what is left on the wires of these rows
+abbrev pub AddsLeft : Names → List (List Sending) → List (List Receiving) → List (Vec Message) → List (Vec Message) → Type 0
+AddsLeft names sends columns old new =
+    (more : List (List Message)) × (lists new ≡ lists old ++ more)
+    × AreJoined (length names) (length columns) sends columns more

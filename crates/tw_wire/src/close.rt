@@ -1,6 +1,6 @@
 ghost use Rattle.std.specs.Prelude.{◌≡◌, length, map, OnOk, IfOk};
 ghost use Rattle.std.specs.Vec.Iter.{into_iter_items};
-ghost use Rattle.tw_wire.specs.Joined.{joined, lists, contents, AreEnds, AddsLeft};
+ghost use Rattle.tw_wire.specs.Joined.{AreJoinedEnds, lists, contents, AreEnds, AddsLeft};
 ghost use Rattle.tw_wire.specs.Lending.{shown};
 ghost use Rattle.tw_wire.specs.Wires.{AreNames, AreAllEnds, AreClosed};
 
@@ -25,7 +25,7 @@ fn close_row<R: Wait>(
     requires sends { map (λ s. s.wire) sends.items ≡ wires.now }
     requires recvs { map (λ r. r.wire) recvs.items ≡ wires.now }
     ensures count { IfOk result (λ left. length left.items ≡ length wires.now) }
-    ensures joined { IfOk result (λ left. map (λ s. s.sent) sends.items ≡ joined (map (λ r. r.taken) recvs.items) (lists left.items)) }
+    ensures joined { IfOk result (λ left. AreJoinedEnds sends.items recvs.items (lists left.items)) }
 {
     let mut left = Vec::new(alloc);
     let mut sends = sends.into_iter();
@@ -48,7 +48,7 @@ fn close_rows<R: Wait>(
     left: &mut Vec<Vec<Message>>,
 ) -> Result<(), Memory>
     requires { AreEnds rows.now (into_iter_items sends.old) (contents columns.items) }
-    ensures { OnOk result (AddsLeft (length rows.now) (into_iter_items sends.old) (contents columns.items) left.old.items left.new.items) }
+    ensures { OnOk result (AddsLeft rows.now (into_iter_items sends.old) (contents columns.items) left.old.items left.new.items) }
 {
     let Some((row, others)) = rows.split_first() else {
         return Ok(());
