@@ -44,10 +44,18 @@ use Rattle.node_meaning.proofs.Posting.{more_of, next_after, onto_wire, stamped_
 use Rattle.node_meaning.proofs.Ran.{other_cell, other_chain, posted_more, sent_postable, stay_apart}
 use Rattle.node_meaning.proofs.HandledParts.{Handled, kept_on}
 
-pub kept_on_is : (old new : Shown) (found : Parts) (m : Message) (entry : Entry) → Handled old new found m entry → new ≡ kept_on old new
-kept_on_is old new found m entry h = λ j. record new { setup = h.same_setup j; code = h.same_code j; me = h.same_me j; accepted = h.same_accepted j }
+pub kept_on_is : (old new : Shown) (found : Parts) (m : Message) (entry : Entry) → Handled old new found m entry
+    → new ≡ kept_on old new
+kept_on_is old new found m entry h = λ j. record new {
+  setup = h.same_setup j;
+  code = h.same_code j;
+  me = h.same_me j;
+  accepted = h.same_accepted j;
+}
 
-module _ (lower : LowerLaws) (old left : Shown) (found : Parts) (m : Message) (entry : Entry) (well : IsWell old) (q : IsDeferredAt old.setup old.me m) (within : IsMessageWithin old.setup.shape.nodes m) (h : Handled old (kept_on old left) found m entry) where
+module _ (lower : LowerLaws) (old left : Shown) (found : Parts) (m : Message) (entry : Entry) (well : IsWell old)
+    (q : IsDeferredAt old.setup old.me m) (within : IsMessageWithin old.setup.shape.nodes m)
+    (h : Handled old (kept_on old left) found m entry) where
   abbrev new : Shown
   new = kept_on old left
 
@@ -79,23 +87,28 @@ module _ (lower : LowerLaws) (old left : Shown) (found : Parts) (m : Message) (e
     abbrev pub ended : Ended
     ended = fit.meaning.end
 
-    pub meant : DoesAsMeant old.setup.protocol old.code old.me (home_of old.setup m.block) m.block (keeping old m.block) (keeping new m.block) h.sent h.ran ended
+    pub meant : DoesAsMeant old.setup.protocol old.code old.me (home_of old.setup m.block) m.block (keeping old m.block)
+        (keeping new m.block) h.sent h.ran ended
     meant = h.runs.meant here ended is at.fits stood fit.meaning.does
 
     pub few_sent : length h.sent ≤ 288
     few_sent =
-        let few : length ended.sends ≤ 288 = lower.few old.setup.protocol here m ended well.setup.accepted at.fits given fit.meaning.does in
+        let few : length ended.sends ≤ 288 = lower.few old.setup.protocol here m ended well.setup.accepted at.fits given
+        fit.meaning.does in
         omega (arith, few, ap length meant.sends ∙ length-map ended.sends _)
 
     -- ---- the cell and the block
 
     infos_there : length old.setup.protocol.infos ≤ length (cell_at old m.block).infos
     infos_there =
-        let typed : length here.infos ≡ length old.setup.protocol.infos = sym (length-map here.infos type_of) ∙ ap length at.fits.infos ∙ length-map old.setup.protocol.infos (λ a. a.ty) in
+        let typed : length here.infos ≡ length old.setup.protocol.infos = sym (length-map here.infos type_of)
+        ∙ ap length at.fits.infos ∙ length-map old.setup.protocol.infos (λ a. a.ty) in
         taken_long (length old.setup.protocol.infos) (cell_at old m.block).infos (ap length stood.cell.infos ∙ typed)
 
-    pub cell_left : kept_of old.setup.protocol (cell_at new m.block) ≡ record { state = h.runs.stop.state; args = h.runs.stop.args; infos = h.runs.stop.around.infos }
-    cell_left = cell_is old.setup.protocol (cell_at old m.block) (cell_at new m.block) h.runs.stop h.runs.leaves.cell h.infos infos_there
+    pub cell_left : kept_of old.setup.protocol (cell_at new m.block) ≡ record
+        { state = h.runs.stop.state; args = h.runs.stop.args; infos = h.runs.stop.around.infos }
+    cell_left = cell_is old.setup.protocol (cell_at old m.block) (cell_at new m.block) h.runs.stop h.runs.leaves.cell h.infos
+        infos_there
 
     pub full : length ended.here.words ≡ old.copies.shape.words
     full = fit.again.words ∙ at.words ∙ sym (ap (λ z. z.words) well.shape)
@@ -111,24 +124,37 @@ module _ (lower : LowerLaws) (old left : Shown) (found : Parts) (m : Message) (e
     abbrev pub local_after : Local
     local_after = with_blocks new.parts blocks_after
 
-    pub blocks_stand : (b : ℕ) → b < old.setup.shape.blocks → BlockStands old.setup.protocol old.code (keeping new b) (blocks_after b)
+    pub blocks_stand : (b : ℕ) → b < old.setup.shape.blocks
+        → BlockStands old.setup.protocol old.code (keeping new b) (blocks_after b)
     blocks_stand b lt = elim (cases_eq b m.block) [
-      | inl e ↦ rw e (subst (λ (x : Here). BlockStands old.setup.protocol old.code (keeping new m.block) x) (sym (changed_here c.local.blocks m.block ended.here)) meant.stands)
-      | inr d ↦ subst (λ (x : Here). BlockStands old.setup.protocol old.code (keeping new b) x) (sym (changed_other c.local.blocks m.block ended.here b d)) (other_stands b lt d)
+      | inl e ↦ rw e (subst (λ (x : Here). BlockStands old.setup.protocol old.code (keeping new m.block) x)
+          (sym (changed_here c.local.blocks m.block ended.here)) meant.stands)
+      | inr d ↦ subst (λ (x : Here). BlockStands old.setup.protocol old.code (keeping new b) x)
+          (sym (changed_other c.local.blocks m.block ended.here b d)) (other_stands b lt d)
     ]
       where
-        other_stands : (b : ℕ) → b < old.setup.shape.blocks → b ≢ m.block → BlockStands old.setup.protocol old.code (keeping new b) (c.local.blocks b)
+        other_stands : (b : ℕ) → b < old.setup.shape.blocks → b ≢ m.block
+            → BlockStands old.setup.protocol old.code (keeping new b) (c.local.blocks b)
         other_stands b lt d =
             let was : BlockStands old.setup.protocol old.code (keeping old b) (c.local.blocks b) = stands.blocks b lt in
             let number : (c.local.blocks b).block ≡ b = (stands.sound.blocks b lt).block in
             let apart : (c.local.blocks b).block ≢ m.block = λ e. d (sym number ∙ e) in
             record {
-              tag = ap (λ (x : Copies). tag_of x (c.local.blocks b).block) meant.blocks ∙ other_tag old.copies m.block (c.local.blocks b).block ended.here.tag ended.here.words apart ∙ was.tag;
-              words = ap (λ (x : Copies). block_words x (c.local.blocks b).block) meant.blocks ∙ other_words old.copies m.block (c.local.blocks b).block ended.here.tag ended.here.words well.copies low full apart ∙ was.words;
-              chain = subst (λ n. IsChain n new.conts (cell_at new b).cont) (sym (ap (λ z. z.words) well.shape) ∙ sym (ap (λ (x : Copies). x.shape.words) meant.blocks)) ((stay_apart lower old left found m entry well q within h).chains.whole b);
+              tag = ap (λ (x : Copies). tag_of x (c.local.blocks b).block) meant.blocks
+                  ∙ other_tag old.copies m.block (c.local.blocks b).block ended.here.tag ended.here.words apart ∙ was.tag;
+              words = ap (λ (x : Copies). block_words x (c.local.blocks b).block) meant.blocks
+                  ∙ other_words old.copies m.block (c.local.blocks b).block ended.here.tag ended.here.words well.copies low
+                  full apart ∙ was.words;
+              chain = subst (λ n. IsChain n new.conts (cell_at new b).cont) (sym (ap (λ z. z.words) well.shape)
+                  ∙ sym (ap (λ (x : Copies). x.shape.words) meant.blocks))
+                  ((stay_apart lower old left found m entry well q within h).chains.whole b);
               cell =
-                  subst (λ (x : Cell). CellStands old.setup.protocol old.code x (saved_from old.setup.protocol new.conts (cell_at new b).cont) (c.local.blocks b)) (sym (other_cell lower old left found m entry well q within h b d))
-                  (subst (λ (xs : List Saved). CellStands old.setup.protocol old.code (kept_of old.setup.protocol (cell_at old b)) xs (c.local.blocks b)) (sym (other_chain lower old left found m entry well q within h b d)) was.cell);
+                  subst (λ (x : Cell). CellStands old.setup.protocol old.code x
+                  (saved_from old.setup.protocol new.conts (cell_at new b).cont) (c.local.blocks b))
+                  (sym (other_cell lower old left found m entry well q within h b d))
+                  (subst (λ (xs : List Saved). CellStands old.setup.protocol old.code
+                  (kept_of old.setup.protocol (cell_at old b)) xs (c.local.blocks b))
+                  (sym (other_chain lower old left found m entry well q within h b d)) was.cell);
             }
 
     -- ---- the handler's event, as the model says it
@@ -139,23 +165,28 @@ module _ (lower : LowerLaws) (old left : Shown) (found : Parts) (m : Message) (e
     leaves_are : entry.after ≡ Some (after_of m.block ended)
     leaves_are =
         let state : (cell_at new m.block).state ≡ (out-StateVal ended.here.state).state = meant.stands.cell.state.same_state in
-        let tag : tag_of new.copies m.block ≡ ended.here.tag = ap (tag_of new.copies) (sym meant.place.same_block) ∙ meant.stands.tag in
+        let tag : tag_of new.copies m.block ≡ ended.here.tag = ap (tag_of new.copies) (sym meant.place.same_block)
+        ∙ meant.stands.tag in
         h.after ∙ (λ j. Some (record { block = m.block; state = state j; tag = tag j; end = meant.end j }))
 
     abbrev at_handler : Mode → List Waiting → Local
     at_handler mode deferred = record c.local { mode = mode; deferred = deferred }
 
-    pub handles : (mode : Mode) (deferred : List Waiting) → mode ≡ found.mode → deferred ≡ found.deferred → found.cpu ≡ c.local.cpu
-        → Handles old.setup old.me entry.stamp m (record c.local { mode = mode; deferred = deferred }) local_after sends entry.after
+    pub handles : (mode : Mode) (deferred : List Waiting) → mode ≡ found.mode → deferred ≡ found.deferred
+        → found.cpu ≡ c.local.cpu
+        → Handles old.setup old.me entry.stamp m (record c.local { mode = mode; deferred = deferred }) local_after sends
+        entry.after
     handles mode deferred is_mode is_deferred is_cpu = record {
       ended = ended;
       does = fit.meaning.does;
       here = changed_here c.local.blocks m.block ended.here;
       others = λ b d. changed_other c.local.blocks m.block ended.here b d;
-      mode = ap (λ x. x.mode) h.parts ∙ ap (λ w. mode_after w m.block found.mode) meant.woke ∙ ap (mode_after ended.woke m.block) (sym is_mode);
+      mode = ap (λ x. x.mode) h.parts ∙ ap (λ w. mode_after w m.block found.mode) meant.woke
+          ∙ ap (mode_after ended.woke m.block) (sym is_mode);
       failed = ap (λ x. x.failed) h.parts ∙ ap failure meant.end;
       deferred =
-          ap (λ x. x.deferred) h.parts ∙ ap (λ k. with_kept k m (freed_if h.ran.freed m.block found.deferred)) meant.kept ∙ ap (λ b. with_kept ended.kept m (freed_if b m.block found.deferred)) meant.freed
+          ap (λ x. x.deferred) h.parts ∙ ap (λ k. with_kept k m (freed_if h.ran.freed m.block found.deferred)) meant.kept
+          ∙ ap (λ b. with_kept ended.kept m (freed_if b m.block found.deferred)) meant.freed
           ∙ ap (λ (ws : List Waiting). with_kept ended.kept m (freed_if ended.freed m.block ws)) (sym is_deferred);
       cpu = ap (λ x. x.cpu) h.parts ∙ is_cpu;
       outs = sends_are;
@@ -177,7 +208,9 @@ module _ (lower : LowerLaws) (old left : Shown) (found : Parts) (m : Message) (e
     }
       where
         Enter : Tag → Data → Type 0
-        Enter tag words = Enters old.setup.protocol old.code old.me (home_of old.setup m.block) m.block tag words (kept_of old.setup.protocol (cell_at old m.block)) (saved_from old.setup.protocol old.conts (cell_at old m.block).cont) m h.runs.stop
+        Enter tag words = Enters old.setup.protocol old.code old.me (home_of old.setup m.block) m.block tag words
+            (kept_of old.setup.protocol (cell_at old m.block))
+            (saved_from old.setup.protocol old.conts (cell_at old m.block).cont) m h.runs.stop
 
         enters : Enter here.tag here.words
         enters =
@@ -190,13 +223,16 @@ module _ (lower : LowerLaws) (old left : Shown) (found : Parts) (m : Message) (e
     pub sent_onto : (t : ℕ) (ch : Chan) → posted (length (c.sent t ch)) old.me t ch sends ≡ onto old.me t ch more
     sent_onto t ch =
         ap (λ k. numbered k (filter (on_wire old.me t ch) sends)) (stands.sent t ch)
-        ∙ sym (onto_wire old.me t ch entry.stamp h.sent old.posted well.all_posted (sent_postable lower old left found m entry well q within h))
+        ∙ sym (onto_wire old.me t ch entry.stamp h.sent old.posted well.all_posted
+        (sent_postable lower old left found m entry well q within h))
 
-    pub sent_numbers : (t : ℕ) (ch : Chan) → length (c.sent t ch ++ posted (length (c.sent t ch)) old.me t ch sends) ≡ posted_at new t ch
+    pub sent_numbers : (t : ℕ) (ch : Chan) → length (c.sent t ch ++ posted (length (c.sent t ch)) old.me t ch sends)
+        ≡ posted_at new t ch
     sent_numbers t ch =
         let put : List Message = posted (length (c.sent t ch)) old.me t ch sends in
         length-append (c.sent t ch) put
         ∙ ap (λ k. length (c.sent t ch) + k) (length-numbered (length (c.sent t ch)) (filter (on_wire old.me t ch) sends))
         ∙ ap (λ k. k + length (filter (on_wire old.me t ch) sends)) (stands.sent t ch)
-        ∙ sym (next_after old.me t ch entry.stamp h.sent old.posted well.all_posted (sent_postable lower old left found m entry well q within h))
+        ∙ sym (next_after old.me t ch entry.stamp h.sent old.posted well.all_posted
+        (sent_postable lower old left found m entry well q within h))
         ∙ ap (λ (xs : List ℕ). slice_index xs (place t ch)) (sym (posted_more lower old left found m entry well q within h))

@@ -31,19 +31,25 @@ use Rattle.node_meaning.proofs.HandledParts.{Handled, kept_on}
 -- ---- what is taken
 
 -- what was accepted from a wire is what was taken from it and what is kept of it
-taken_count : (taken_now : Bool) (front kept : Option Message) (took : List Message) (accepted : ℕ) → (taken_now ≡ true → front ≡ kept) → length took + length (option_to_list kept) ≡ accepted
-    → length (took ++ (if taken_now then option_to_list front else [])) + length (option_to_list (if taken_now then None else kept)) ≡ accepted
+taken_count : (taken_now : Bool) (front kept : Option Message) (took : List Message) (accepted : ℕ)
+    → (taken_now ≡ true → front ≡ kept) → length took + length (option_to_list kept) ≡ accepted
+    → length (took ++ (if taken_now then option_to_list front else [])) + length
+    (option_to_list (if taken_now then None else kept)) ≡ accepted
 taken_count true front kept took accepted same h = rw (same refl) (omega (arith, h, length-append took (option_to_list kept)))
 taken_count false front kept took accepted same h = omega (arith, h, length-append took [])
 
 -- a message of a wire is fit for its end
-fit_there : (n : Shown) (t : ℕ) (ch : Chan) (ms : List Message) → Each (λ m. IsFit n.setup n.me m.to m) ms → Each (IsFit n.setup n.me t) (filter (on_wire n.me t ch) ms)
+fit_there : (n : Shown) (t : ℕ) (ch : Chan) (ms : List Message) → Each (λ m. IsFit n.setup n.me m.to m) ms
+    → Each (IsFit n.setup n.me t) (filter (on_wire n.me t ch) ms)
 fit_there n t ch ms h =
-    each_both (λ m. IsFit n.setup n.me m.to m) (λ m. on_wire n.me t ch m ≡ true) (IsFit n.setup n.me t) (filter (on_wire n.me t ch) ms)
+    each_both (λ m. IsFit n.setup n.me m.to m) (λ m. on_wire n.me t ch m ≡ true) (IsFit n.setup n.me t)
+    (filter (on_wire n.me t ch) ms)
     (λ m x on. subst (λ k. IsFit n.setup n.me k m) (on_it n.me t ch m on).0 x)
     (Each-filter (λ m. IsFit n.setup n.me m.to m) (on_wire n.me t ch) ms h) (passes (on_wire n.me t ch) ms)
 
-module _ (lower : LowerLaws) (old left : Shown) (found : Parts) (m : Message) (entry : Entry) (well : IsWell old) (q : IsDeferredAt old.setup old.me m) (within : IsMessageWithin old.setup.shape.nodes m) (h : Handled old (kept_on old left) found m entry) where
+module _ (lower : LowerLaws) (old left : Shown) (found : Parts) (m : Message) (entry : Entry) (well : IsWell old)
+    (q : IsDeferredAt old.setup old.me m) (within : IsMessageWithin old.setup.shape.nodes m)
+    (h : Handled old (kept_on old left) found m entry) where
   abbrev new : Shown
   new = kept_on old left
 
@@ -75,7 +81,8 @@ module _ (lower : LowerLaws) (old left : Shown) (found : Parts) (m : Message) (e
         stamp = stamp ∙ ap (λ l. latest l.clock front + 1) (sym stands.parts);
         clock = ap (λ x. x.clock) h.parts;
         count = h.count ∙ sym (length-map h.sent _);
-        sent = ap (λ x. x.sent) h.parts ∙ ap (λ k. k + length h.sent) (same_sent ∙ sym (ap (λ l. l.sent) stands.parts)) ∙ ap (λ k. c.local.sent + k) (sym (length-map h.sent _));
+        sent = ap (λ x. x.sent) h.parts ∙ ap (λ k. k + length h.sent) (same_sent ∙ sym (ap (λ l. l.sent) stands.parts))
+            ∙ ap (λ k. c.local.sent + k) (sym (length-map h.sent _));
         acts = acts;
       }
 
@@ -89,22 +96,40 @@ module _ (lower : LowerLaws) (old left : Shown) (found : Parts) (m : Message) (e
       goes = record { front = front; sends = sent2; local = step; took = λ f ch. refl; sent = λ t ch. refl }
 
       counts : Counts old.setup old.code old.me c.local front entry.act (tally_of old) (tally_of new)
-      counts = subst (λ (o : Option Message). CountsIf old.setup old.code old.me c.local o (tally_of old) (tally_of new)) (sym is_handled) (counted lower old left found m entry well q within h c stands)
+      counts = subst (λ (o : Option Message). CountsIf old.setup old.code old.me c.local o (tally_of old) (tally_of new))
+          (sym is_handled) (counted lower old left found m entry well q within h c stands)
 
-      replays : ReplaysBeside (Counts old.setup old.code) old.setup old.me (begin old.setup old.me) (first_tally old.setup old.me) new.log after (tally_of new)
+      replays : ReplaysBeside (Counts old.setup old.code) old.setup old.me (begin old.setup old.me)
+          (first_tally old.setup old.me) new.log after (tally_of new)
       replays =
-          subst (λ (l : List Entry). ReplaysBeside (Counts old.setup old.code) old.setup old.me (begin old.setup old.me) (first_tally old.setup old.me) l after (tally_of new)) (sym h.log)
-          (log_goes_on_beside (Counts old.setup old.code) old.setup old.me old.log (begin old.setup old.me) c after (first_tally old.setup old.me) (tally_of old) (tally_of new) entry stands.replays goes counts)
+          subst (λ (l : List Entry). ReplaysBeside (Counts old.setup old.code) old.setup old.me (begin old.setup old.me)
+          (first_tally old.setup old.me) l after (tally_of new)) (sym h.log)
+          (log_goes_on_beside (Counts old.setup old.code) old.setup old.me old.log (begin old.setup old.me) c after
+          (first_tally old.setup old.me) (tally_of old) (tally_of new) entry stands.replays goes counts)
 
-      took_count : (f : ℕ) (ch : Chan) → length (c.took f ch ++ taken entry front f old.me ch) + length (option_to_list (front_at new f ch)) ≡ accepted_at old f ch
+      took_count : (f : ℕ) (ch : Chan) → length (c.took f ch ++ taken entry front f old.me ch) + length
+          (option_to_list (front_at new f ch)) ≡ accepted_at old f ch
       took_count f ch =
           rw (h.fronts f ch, h.node, nat_eq_refl old.me)
-          (taken_count (takes_from entry.act f ch) front (front_at old f ch) (c.took f ch) (accepted_at old f ch) (is_front f ch) (stands.took f ch))
+          (taken_count (takes_from entry.act f ch) front (front_at old f ch) (c.took f ch) (accepted_at old f ch)
+          (is_front f ch) (stands.took f ch))
 
-      fit_more : (t : ℕ) (ch : Chan) → Each (IsFit old.setup old.me t) (c.sent t ch ++ posted (length (c.sent t ch)) old.me t ch sent2)
+      fit_more : (t : ℕ) (ch : Chan) → Each (IsFit old.setup old.me t)
+          (c.sent t ch ++ posted (length (c.sent t ch)) old.me t ch sent2)
       fit_more t ch =
           Each-append (IsFit old.setup old.me t) (c.sent t ch) (posted (length (c.sent t ch)) old.me t ch sent2) (stands.fit t ch)
-          (Each-numbered (IsFit old.setup old.me t) (λ x k y. record { on = record { is_message = y.on.is_message; named = y.on.named; from = y.on.from; to = y.on.to; block = y.on.block }; within = y.within; receiver = y.receiver })
+          (Each-numbered (IsFit old.setup old.me t) (λ x k y. record {
+            on = record {
+              is_message = y.on.is_message;
+              named = y.on.named;
+              from = y.on.from;
+              to = y.on.to;
+              block =
+                  y.on.block;
+            };
+            within = y.within;
+            receiver = y.receiver;
+          })
           (length (c.sent t ch)) (filter (on_wire old.me t ch) sent2) (fit_there old t ch sent2 fit_sends))
 
       stands_after : StandsFor new after
@@ -124,6 +149,7 @@ module _ (lower : LowerLaws) (old left : Shown) (found : Parts) (m : Message) (e
         goes = goes;
         takes = refl;
         stands = stands_after;
-        sent = λ t ch. ap (λ (ms : List Message). c.sent t ch ++ ms) (sent_onto lower old left found m entry well q within h c stands t ch);
+        sent = λ t ch. ap (λ (ms : List Message). c.sent t ch ++ ms)
+            (sent_onto lower old left found m entry well q within h c stands t ch);
         counted = counts;
       }

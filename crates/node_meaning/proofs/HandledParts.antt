@@ -1,24 +1,12 @@
 -- What an event leaves of a node where a handler ran in it, and found these parts of the node.
 use Rattle.std.specs.Prelude.{◌≡◌, ◌≢◌, ℕ, ◌+◌, if◌then◌else◌, List, [], ◌∷◌, ◌++◌, Some, None, length}
-use Rattle.tw_base.specs.declared.entry.After.{After}
 use Rattle.tw_base.specs.declared.entry.Entry.{Entry}
 use Rattle.tw_base.specs.declared.message.Chan.{Chan}
 use Rattle.tw_base.specs.declared.message.Message.{Message}
-use Rattle.block_tags.specs.Copies.{tag_of}
-use Rattle.teapot_meaning.specs.Does.{Does}
-use Rattle.teapot_meaning.specs.Fits.{Fits}
-use Rattle.teapot_meaning.specs.declared.state.Ended.{Ended}
-use Rattle.teapot_meaning.specs.declared.state.Here.{Here}
-use Rattle.handler_code.specs.Machine.{Stopped}
 use Rattle.handler_vm.specs.declared.cell.Ran.{Ran}
-use Rattle.handler_vm.specs.Chains.{IsChain, KeepsOthers}
-use Rattle.handler_vm.specs.Leaves.{Leaves, StopsAt}
-use Rattle.compiled_handlers.specs.Standing.{BlockStands, DoesAsMeant, IsBlockOf}
-use Rattle.dsm_runs.specs.Events.{failure, freed_if, mode_after, with_kept}
-use Rattle.dsm_runs.specs.Setups.{home_of}
 use Rattle.dsm_runs.specs.Worlds.{takes_from}
-use Rattle.node_meaning.specs.Nodes.{Parts, Shown, cell_at, front_at, keeping}
-use Rattle.node_meaning.specs.Sending.{Outbox, post_all}
+use Rattle.node_meaning.specs.Nodes.{Parts, Shown, cell_at, front_at}
+use Rattle.node_meaning.specs.Sending.{post_all}
 use Rattle.node_meaning.specs.Handling.{RanFor, after_at, outbox_of, parts_after}
 
 -- what the node shows, with what no event changes as it was before

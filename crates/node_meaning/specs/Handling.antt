@@ -1,8 +1,7 @@
 -- An event of a node in which a handler runs: what the node's calls leave, part by part.
-use Rattle.std.specs.Prelude.{true, ◌<◌, ◌≤◌, ◌≡◌, ◌≢◌, ℕ, ◌+◌, if◌then◌else◌, List, [], ◌∷◌, ◌++◌, Some, None, length}
+use Rattle.std.specs.Prelude.{true, ◌<◌, ◌≤◌, ◌≡◌, ◌≢◌, ℕ, ◌+◌, List, [], ◌∷◌, ◌++◌, Some, length}
 use Rattle.tw_base.specs.declared.entry.After.{After}
 use Rattle.tw_base.specs.declared.entry.Entry.{Entry}
-use Rattle.tw_base.specs.declared.message.Chan.{Chan}
 use Rattle.tw_base.specs.declared.message.Message.{Message}
 use Rattle.block_tags.specs.Copies.{tag_of}
 use Rattle.teapot_meaning.specs.Does.{Does}
@@ -18,8 +17,7 @@ use Rattle.handler_vm.specs.Leaves.{Leaves, StopsAt}
 use Rattle.compiled_handlers.specs.Standing.{BlockStands, DoesAsMeant, IsBlockOf}
 use Rattle.dsm_runs.specs.Events.{failure, freed_if, mode_after, with_kept}
 use Rattle.dsm_runs.specs.Setups.{home_of}
-use Rattle.dsm_runs.specs.Worlds.{takes_from}
-use Rattle.node_meaning.specs.Nodes.{Parts, Shown, cell_at, front_at, keeping}
+use Rattle.node_meaning.specs.Nodes.{Parts, Shown, cell_at, keeping}
 use Rattle.node_meaning.specs.Sending.{Outbox, post_all}
 
 abbrev pub outbox_of : Shown → Outbox
@@ -52,10 +50,13 @@ pub record RanFor (old new : Shown) (m : Message) (sent : List Message) (ran : R
       Fits old.setup.protocol here →
       BlockStands old.setup.protocol old.code (keeping old m.block) here →
       Does old.setup.protocol here m e →
-      DoesAsMeant old.setup.protocol old.code old.me (home_of old.setup m.block) m.block (keeping old m.block) (keeping new m.block) sent ran e
+      DoesAsMeant old.setup.protocol old.code old.me (home_of old.setup m.block) m.block (keeping old m.block)
+      (keeping new m.block) sent ran e
   pub stop : Stopped
-  pub stops : StopsAt old.setup.protocol old.code old.me (home_of old.setup m.block) (cell_at old m.block) old.copies old.conts m stop
-  pub leaves : Leaves old.setup.protocol old.me m (cell_at old m.block) (cell_at new m.block) old.copies new.copies new.conts sent ran stop
+  pub stops : StopsAt old.setup.protocol old.code old.me (home_of old.setup m.block) (cell_at old m.block) old.copies
+      old.conts m stop
+  pub leaves : Leaves old.setup.protocol old.me m (cell_at old m.block) (cell_at new m.block) old.copies new.copies new.conts
+      sent ran stop
   pub chain : IsChain old.copies.shape.words new.conts (cell_at new m.block).cont
   pub others : KeepsOthers old.conts new.conts (cell_at old m.block).cont (cell_at new m.block).cont
 

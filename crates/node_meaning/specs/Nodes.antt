@@ -117,7 +117,8 @@ tested n = with_blocks n.parts (first_here n.setup n.me)
 abbrev pub test_of : Shown → Event → Bool
 test_of n (event.Instr i) = may_instruct n.setup (tested n)
 test_of n (event.Redeliver i) = may_handle n.setup (tested n) && has_eligible n.parts.deferred
-test_of n (event.Deliver i f c) = may_handle n.setup (tested n) && (not (has_eligible n.parts.deferred) && is_early (front_at n f c))
+test_of n (event.Deliver i f c) = may_handle n.setup (tested n) &&
+    (not (has_eligible n.parts.deferred) && is_early (front_at n f c))
 
 -- the tests of the instruction, the redelivery, and the deliveries by sender and then by channel
 abbrev pub node_tests : Shown → List Bool

@@ -28,7 +28,8 @@ pub record IsFit (s : Setup) (f t : ℕ) (m : Message) : Type 0 where
 
 -- The node stands for the course: its log leads there, and the machine of ops to what it keeps.
 pub record StandsFor (n : Shown) (c : Course) : Type 0 where
-  pub replays : ReplaysBeside (Counts n.setup n.code) n.setup n.me (begin n.setup n.me) (first_tally n.setup n.me) n.log c (tally_of n)
+  pub replays : ReplaysBeside (Counts n.setup n.code) n.setup n.me (begin n.setup n.me) (first_tally n.setup n.me) n.log c
+      (tally_of n)
   pub parts : c.local ≡ with_blocks n.parts c.local.blocks
   pub blocks : (b : ℕ) → b < n.setup.shape.blocks → BlockStands n.setup.protocol n.code (keeping n b) (c.local.blocks b)
   pub sound : IsNodeOf n.setup n.me c.local

@@ -50,7 +50,8 @@ handled_message i l front act.Step = None
 -- slots and 0 in the places past them.
 pub record CountsMessage (s : Setup) (code : Code) (i : ℕ) (l : Local) (m : Message) (t u : Tally) : Type 0 where
   pub stop : Stopped
-  pub enters : Enters s.protocol code i (home_of s m.block) m.block (l.blocks m.block).tag (l.blocks m.block).words (t.cells m.block) (t.chains m.block) m stop
+  pub enters : Enters s.protocol code i (home_of s m.block) m.block (l.blocks m.block).tag (l.blocks m.block).words
+      (t.cells m.block) (t.chains m.block) m stop
   pub cell : u.cells m.block ≡ record { state = stop.state; args = stop.args; infos = stop.around.infos }
   pub chain : u.chains m.block ≡ map widened stop.chain
   pub other_cells : (b : ℕ) → b ≢ m.block → u.cells b ≡ t.cells b
