@@ -22,21 +22,33 @@ set_most (x ∷ xs) zero v = omega arith
 set_most (x ∷ xs) (suc p) v = set_most xs p v
 
 -- a number in the list is one more, and the others are as they were
-next_few : (xs : List ℕ) (p k count : ℕ) → ((j : ℕ) → slice_index xs j + (count + 1) < 2 ^ 64) → slice_index (slice_set xs p (slice_index xs p + 1)) k + count < 2 ^ 64
+next_few : (xs : List ℕ) (p k count : ℕ) → ((j : ℕ) → slice_index xs j + (count + 1) < 2 ^ 64)
+    → slice_index (slice_set xs p (slice_index xs p + 1)) k + count < 2 ^ 64
 next_few xs p k count few = elim (cases_eq k p) [
   | inl e ↦ rw e (omega (arith, set_most xs p (slice_index xs p + 1), few p))
   | inr d ↦ omega (arith, get_or-set_other xs p k (slice_index xs p + 1) 0 d, few k)
 ]
 
-pub one_posted : (stamp : ℕ) (all : List Message) (i : ℕ) (x y : Message) (first a b : Posting) → i < length all → x ≡ get_or all i x → y ≡ stamped stamp x
+pub one_posted : (stamp : ℕ) (all : List Message) (i : ℕ) (x y : Message) (first a b : Posting) → i < length all
+    → x ≡ get_or all i x → y ≡ stamped stamp x
     → b.waiting ≡ a.waiting ++ record y { number = slice_index a.posted (place y.to y.chan) } ∷ []
     → b.posted ≡ slice_set a.posted (place y.to y.chan) (slice_index a.posted (place y.to y.chan) + 1)
     → b.room ≡ a.room → IsPosting stamp all (drop i all) first a → IsPosting stamp all (drop (i + 1) all) first b
 one_posted stamp all i x y first a b lt at is waiting posted room h = record {
-  room = omega (arith, h.room, long, room, ap length waits, length-append a.waiting (record y { number = slice_index a.posted (place y.to y.chan) } ∷ []), ap length waiting);
+  room = omega (
+    arith,
+    h.room,
+    long,
+    room,
+    ap length waits,
+    length-append a.waiting
+        (record y { number = slice_index a.posted (place y.to y.chan) } ∷ []),
+    ap length waiting,
+  );
   same_room = room ∙ h.same_room;
   few = λ k. few k;
-  posted = ap (λ o. post_all stamp (drop (i + 1) all) o) box ∙ ap (λ (l : List Message). post_all stamp l (outbox a)) (sym left) ∙ h.posted;
+  posted = ap (λ o. post_all stamp (drop (i + 1) all) o) box
+      ∙ ap (λ (l : List Message). post_all stamp l (outbox a)) (sym left) ∙ h.posted;
 }
   where
     left : drop i all ≡ x ∷ drop (i + 1) all
@@ -49,9 +61,15 @@ one_posted stamp all i x y first a b lt at is waiting posted room h = record {
     waits = waiting ∙ ap (λ (z : Message). a.waiting ++ record z { number = slice_index a.posted (place z.to z.chan) } ∷ []) is
 
     numbers : b.posted ≡ slice_set a.posted (place x.to x.chan) (slice_index a.posted (place x.to x.chan) + 1)
-    numbers = posted ∙ ap (λ (z : Message). slice_set a.posted (place z.to z.chan) (slice_index a.posted (place z.to z.chan) + 1)) is
+    numbers = posted ∙ ap (λ (z : Message). slice_set a.posted (place z.to z.chan)
+        (slice_index a.posted (place z.to z.chan) + 1)) is
 
-    box : outbox b ≡ record { waiting = a.waiting ++ record (stamped stamp x) { number = slice_index a.posted (place x.to x.chan) } ∷ []; posted = slice_set a.posted (place x.to x.chan) (slice_index a.posted (place x.to x.chan) + 1) }
+    box : outbox b ≡ record {
+      waiting = a.waiting ++ record (stamped stamp x)
+          { number = slice_index a.posted (place x.to x.chan) } ∷ [];
+      posted = slice_set a.posted (place x.to x.chan)
+          (slice_index a.posted (place x.to x.chan) + 1);
+    }
     box = λ j. record { waiting = waits j; posted = numbers j }
 
     few : (k : ℕ) → slice_index b.posted k + length (drop (i + 1) all) < 2 ^ 64

@@ -20,8 +20,10 @@ pub fn fault(setup: &Setup, code: &Code, me: NodeId, state: &mut State, store: b
     requires ready { state.old.ready ≡ true }
     requires enabled { test_of (shown_of setup.now code.now me state.old) (event.Instr me) ≡ true }
     requires block { block < setup.now.shape.blocks }
-    requires refused { IsRefused setup.now (asked setup.now me state.old.processor.cpu) store block (tag_of state.old.blocks block) }
-    ensures makes { Makes (shown_of setup.now code.now me state.old) (shown_of setup.now code.now me state.new) None (event.Instr me) }
+    requires refused { IsRefused setup.now (asked setup.now me state.old.processor.cpu) store block
+        (tag_of state.old.blocks block) }
+    ensures makes { Makes (shown_of setup.now code.now me state.old) (shown_of setup.now code.now me state.new)
+        None (event.Instr me) }
     ensures node { IsNode setup.now code.now me state.new }
 {
     nodes_are_ready_for_handlers();
@@ -40,7 +42,8 @@ pub fn redeliver(setup: &Setup, code: &Code, me: NodeId, state: &mut State)
     requires node { IsNode setup.now code.now me state.old }
     requires ready { state.old.ready ≡ true }
     requires enabled { test_of (shown_of setup.now code.now me state.old) (event.Redeliver me) ≡ true }
-    ensures makes { Makes (shown_of setup.now code.now me state.old) (shown_of setup.now code.now me state.new) None (event.Redeliver me) }
+    ensures makes { Makes (shown_of setup.now code.now me state.old) (shown_of setup.now code.now me state.new)
+        None (event.Redeliver me) }
     ensures node { IsNode setup.now code.now me state.new }
 {
     nodes_are_ready_for_handlers();
@@ -63,7 +66,8 @@ pub fn deliver(setup: &Setup, code: &Code, me: NodeId, state: &mut State, from: 
     requires ready { state.old.ready ≡ true }
     requires from { from < setup.now.shape.nodes }
     requires enabled { test_of (shown_of setup.now code.now me state.old) (event.Deliver me from chan) ≡ true }
-    ensures makes { Makes (shown_of setup.now code.now me state.old) (shown_of setup.now code.now me state.new) (front_at (shown_of setup.now code.now me state.old) from chan) (event.Deliver me from chan) }
+    ensures makes { Makes (shown_of setup.now code.now me state.old) (shown_of setup.now code.now me state.new)
+        (front_at (shown_of setup.now code.now me state.old) from chan) (event.Deliver me from chan) }
     ensures node { IsNode setup.now code.now me state.new }
 {
     nodes_are_ready_for_handlers();

@@ -8,27 +8,69 @@ use Rattle.node_core.proofs.HandlerRuns.{bounded_by, can_settle, cell_read, cell
 use Rattle.node_core.proofs.handling.handle.Goals as goal
 
 pub settle-requires-clause-can : goal.settle-requires-clause-can
-settle-requires-clause-can c = can_settle c.args.setup.now c.args.code.now c.args.me c.args.state.now c.run-ran.new.state c.args.message.now c.run-ran.result c.requires c.run-ran.ensures
+settle-requires-clause-can c = can_settle c.args.setup.now c.args.code.now c.args.me c.args.state.now c.run-ran.new.state
+    c.args.message.now c.run-ran.result c.requires c.run-ran.ensures
 
 pub settle-requires-clause-bounded : goal.settle-requires-clause-bounded
-settle-requires-clause-bounded c = bounded_by c.args.setup.now c.args.code.now c.args.me c.args.state.now c.run-ran.new.state c.args.message.now c.run-ran.result c.nodes_are_ready_for_handlers.ensures.runs c.requires c.run-ran.ensures
+settle-requires-clause-bounded c = bounded_by c.args.setup.now c.args.code.now c.args.me c.args.state.now c.run-ran.new.state
+    c.args.message.now c.run-ran.result c.nodes_are_ready_for_handlers.ensures.runs c.requires c.run-ran.ensures
 
 pub settle-requires-clause-block : goal.settle-requires-clause-block
-settle-requires-clause-block c = queue_there c.args.setup.now c.args.code.now c.args.me c.args.state.now c.run-ran.new.state c.args.message.now c.run-ran.result c.requires c.run-ran.ensures
+settle-requires-clause-block c = queue_there c.args.setup.now c.args.code.now c.args.me c.args.state.now c.run-ran.new.state
+    c.args.message.now c.run-ran.result c.requires c.run-ran.ensures
 
 pub overflow_cast-sends : goal.overflow_cast-sends
 overflow_cast-sends c =
-    let few = few_sends c.args.setup.now c.args.code.now c.args.me c.args.state.now c.run-ran.new.state c.settle.new.state c.args.message.now c.run-ran.result c.args.stamp c.sends.result.now c.nodes_are_ready_for_handlers.ensures.runs c.requires c.run-ran.ensures c.settle.ensures c.sends.ensures in
+    let few = few_sends c.args.setup.now c.args.code.now c.args.me c.args.state.now c.run-ran.new.state c.settle.new.state
+    c.args.message.now c.run-ran.result c.args.stamp c.sends.result.now c.nodes_are_ready_for_handlers.ensures.runs
+    c.requires c.run-ran.ensures c.settle.ensures c.sends.ensures in
     omega (arith, few.0)
 
 pub returns : goal.returns
 returns c =
-    let few = few_sends c.args.setup.now c.args.code.now c.args.me c.args.state.now c.run-ran.new.state c.settle.new.state c.args.message.now c.run-ran.result c.args.stamp c.sends.result.now c.nodes_are_ready_for_handlers.ensures.runs c.requires c.run-ran.ensures c.settle.ensures c.sends.ensures in
-    let there = cells_there c.args.setup.now c.args.code.now c.args.me c.args.state.now c.run-ran.new.state c.settle.new.state c.args.message.now c.run-ran.result c.args.stamp c.requires c.run-ran.ensures c.settle.ensures in
-    let cell = cell_read c.args.setup.now c.args.me c.args.message.now.block c.settle.new.state.cells c.items.result.now c.from.result c.get.result c.index-items-from.result there c.items.ensures c.from.ensures c.get.ensures.value c.index-items-from.is in
-    let there_cell : (get_or c.items.result.now c.from.result c.index-items-from.result).state ≡ (slice_index_or c.settle.new.state.cells c.args.message.now.block (no_cell c.args.setup.now c.args.me c.args.message.now.block)).state = ap (λ (x : Cell). x.state) (sym c.index-items-from.is ∙ cell) in
-    let left : Some (record { block = c.args.message.now.block; state = (get_or c.items.result.now c.from.result c.index-items-from.result).state; tag = c.tag.result; end = c.run-ran.result.end }) ≡ Some (after_at (shown_of c.args.setup.now c.args.code.now c.args.me c.settle.new.state) c.args.message.now.block c.run-ran.result) =
-    λ j. Some (record { block = c.args.message.now.block; state = there_cell j; tag = c.tag.ensures.value j; end = c.run-ran.result.end }) in
-    handled_done c.args.setup.now c.args.code.now c.args.me c.args.state.now c.run-ran.new.state c.settle.new.state c.args.message.now c.run-ran.result c.args.stamp c.args.act c.push.new.self
-    (record { stamp = c.args.stamp; node = c.args.me; act = c.args.act; sends = length c.sends.result.now; after = Some (record { block = c.args.message.now.block; state = (get_or c.items.result.now c.from.result c.index-items-from.result).state; tag = c.tag.result; end = c.run-ran.result.end }) })
+    let few = few_sends c.args.setup.now c.args.code.now c.args.me c.args.state.now c.run-ran.new.state c.settle.new.state
+    c.args.message.now c.run-ran.result c.args.stamp c.sends.result.now c.nodes_are_ready_for_handlers.ensures.runs
+    c.requires c.run-ran.ensures c.settle.ensures c.sends.ensures in
+    let there = cells_there c.args.setup.now c.args.code.now c.args.me c.args.state.now c.run-ran.new.state
+    c.settle.new.state c.args.message.now c.run-ran.result c.args.stamp c.requires c.run-ran.ensures c.settle.ensures in
+    let cell = cell_read c.args.setup.now c.args.me c.args.message.now.block c.settle.new.state.cells c.items.result.now
+    c.from.result c.get.result c.index-items-from.result there c.items.ensures c.from.ensures c.get.ensures.value
+    c.index-items-from.is in
+    let there_cell : (get_or c.items.result.now c.from.result c.index-items-from.result).state
+    ≡ (slice_index_or c.settle.new.state.cells c.args.message.now.block
+    (no_cell c.args.setup.now c.args.me c.args.message.now.block)).state = ap (λ (x : Cell). x.state)
+    (sym c.index-items-from.is ∙ cell) in
+    let left : Some (record {
+      block = c.args.message.now.block;
+      state =
+          (get_or c.items.result.now c.from.result c.index-items-from.result).state;
+      tag = c.tag.result;
+      end =
+          c.run-ran.result.end;
+    }) ≡ Some (after_at (shown_of c.args.setup.now c.args.code.now c.args.me c.settle.new.state)
+    c.args.message.now.block c.run-ran.result) =
+    λ j. Some (record {
+      block = c.args.message.now.block;
+      state = there_cell j;
+      tag = c.tag.ensures.value j;
+      end =
+          c.run-ran.result.end;
+    }) in
+    handled_done c.args.setup.now c.args.code.now c.args.me c.args.state.now c.run-ran.new.state c.settle.new.state
+    c.args.message.now c.run-ran.result c.args.stamp c.args.act c.push.new.self
+    (record {
+      stamp = c.args.stamp;
+      node = c.args.me;
+      act = c.args.act;
+      sends = length c.sends.result.now;
+      after = Some
+          (record {
+            block = c.args.message.now.block;
+            state =
+                (get_or c.items.result.now c.from.result c.index-items-from.result).state;
+            tag = c.tag.result;
+            end =
+                c.run-ran.result.end;
+          });
+    })
     c.run-ran.ensures c.settle.ensures (ap (λ l. l.list) c.push.ensures) refl refl refl few.1 left

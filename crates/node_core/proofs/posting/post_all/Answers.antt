@@ -3,5 +3,6 @@ use Rattle.node_core.proofs.posting.post_all.Goals as goal
 
 pub loop-message-preserved : goal.loop-message-preserved
 loop-message-preserved c =
-    one_posted c.args.stamp c.args.sends.now c.loop-message.message-index c.message-item.result c.stamped.result c.args.out.now c.loop-message.out c.post.new.self c.loop-message-test.true c.message-item.is c.stamped.ensures
+    one_posted c.args.stamp c.args.sends.now c.loop-message.message-index c.message-item.result c.stamped.result
+    c.args.out.now c.loop-message.out c.post.new.self c.loop-message-test.true c.message-item.is c.stamped.ensures
     c.post.ensures.waiting c.post.ensures.posted c.post.ensures.room c.loop-message.invariant

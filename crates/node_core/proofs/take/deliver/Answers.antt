@@ -6,28 +6,50 @@ use Rattle.node_core.proofs.take.deliver.Goals as goal
 
 pub unwrap-message-requires : goal.unwrap-message-requires
 unwrap-message-requires c =
-    early_there (front_at (shown_of c.args.setup.now c.args.code.now c.args.me c.args.state.now) c.args.from c.args.chan) c.take.result c.take.ensures.taken
-    (delivery_tests (shown_of c.args.setup.now c.args.code.now c.args.me c.args.state.now) c.args.from c.args.chan c.requires.enabled).1
+    early_there (front_at (shown_of c.args.setup.now c.args.code.now c.args.me c.args.state.now) c.args.from c.args.chan)
+    c.take.result c.take.ensures.taken
+    (delivery_tests (shown_of c.args.setup.now c.args.code.now c.args.me c.args.state.now) c.args.from c.args.chan
+    c.requires.enabled).1
 
 pub overflow_add-stamp : goal.overflow_add-stamp
 overflow_add-stamp c =
-    let tests = delivery_tests (shown_of c.args.setup.now c.args.code.now c.args.me c.args.state.now) c.args.from c.args.chan c.requires.enabled in
+    let tests = delivery_tests (shown_of c.args.setup.now c.args.code.now c.args.me c.args.state.now) c.args.from c.args.chan
+    c.requires.enabled in
     let clock = (may_handle_few (shown_of c.args.setup.now c.args.code.now c.args.me c.args.state.now) tests.0).1 in
-    let early = early_is (front_at (shown_of c.args.setup.now c.args.code.now c.args.me c.args.state.now) c.args.from c.args.chan) c.unwrap-message.result (sym c.take.ensures.taken ∙ c.unwrap-message.ensures) tests.1 in
-    omega (arith, stamp_fits c.args.state.now.clock c.unwrap-message.result.stamp clock early, ap (λ n. n + 1) c.max-stamp.ensures)
+    let early = early_is (front_at (shown_of c.args.setup.now c.args.code.now c.args.me c.args.state.now) c.args.from
+    c.args.chan) c.unwrap-message.result (sym c.take.ensures.taken ∙ c.unwrap-message.ensures) tests.1 in
+    omega (
+      arith,
+      stamp_fits c.args.state.now.clock c.unwrap-message.result.stamp clock early,
+      ap (λ n. n + 1)
+          c.max-stamp.ensures,
+    )
 
 pub handle-requires : goal.handle-requires
 handle-requires c =
-    let tests = delivery_tests (shown_of c.args.setup.now c.args.code.now c.args.me c.args.state.now) c.args.from c.args.chan c.requires.enabled in
-    can_handle c.args.setup.now c.args.code.now c.args.me c.args.state.now c.unwrap-message.result c.args.state.now.mode c.args.state.now.instructions (c.args.state.now.handled + 1) c.args.state.now.deferred c.take.new.self c.requires.node c.requires.ready
+    let tests = delivery_tests (shown_of c.args.setup.now c.args.code.now c.args.me c.args.state.now) c.args.from c.args.chan
+    c.requires.enabled in
+    can_handle c.args.setup.now c.args.code.now c.args.me c.args.state.now c.unwrap-message.result c.args.state.now.mode
+    c.args.state.now.instructions (c.args.state.now.handled + 1) c.args.state.now.deferred c.take.new.self
+    c.requires.node c.requires.ready
     (may_handle_sent (shown_of c.args.setup.now c.args.code.now c.args.me c.args.state.now) tests.0)
-    (c.nodes_are_ready_for_handlers.ensures.fronts (shown_of c.args.setup.now c.args.code.now c.args.me c.args.state.now) c.args.from c.args.chan c.unwrap-message.result c.requires.node.well c.requires.node.replayed (sym c.take.ensures.taken ∙ c.unwrap-message.ensures))
+    (c.nodes_are_ready_for_handlers.ensures.fronts (shown_of c.args.setup.now c.args.code.now c.args.me c.args.state.now)
+    c.args.from c.args.chan c.unwrap-message.result c.requires.node.well c.requires.node.replayed
+    (sym c.take.ensures.taken ∙ c.unwrap-message.ensures))
     refl refl
 
 pub returns-clause-makes : goal.returns-clause-makes
 returns-clause-makes c =
-    (delivery_made c.args.setup.now c.args.code.now c.args.me c.args.state.now c.handle.new.state c.args.from c.args.chan c.unwrap-message.result c.take.new.self (c.max-stamp.result + 1) c.handler_events_are_made.ensures.deliveries c.requires.node c.requires.enabled c.requires.from (sym c.take.ensures.taken ∙ c.unwrap-message.ensures) c.take.ensures.items c.take.ensures.accepted (ap (λ n. n + 1) c.max-stamp.ensures) c.handle.ensures).makes
+    (delivery_made c.args.setup.now c.args.code.now c.args.me c.args.state.now c.handle.new.state c.args.from c.args.chan
+    c.unwrap-message.result c.take.new.self (c.max-stamp.result + 1) c.handler_events_are_made.ensures.deliveries
+    c.requires.node c.requires.enabled c.requires.from (sym c.take.ensures.taken
+    ∙ c.unwrap-message.ensures) c.take.ensures.items c.take.ensures.accepted (ap (λ n. n + 1) c.max-stamp.ensures)
+    c.handle.ensures).makes
 
 pub returns-clause-node : goal.returns-clause-node
 returns-clause-node c =
-    (delivery_made c.args.setup.now c.args.code.now c.args.me c.args.state.now c.handle.new.state c.args.from c.args.chan c.unwrap-message.result c.take.new.self (c.max-stamp.result + 1) c.handler_events_are_made.ensures.deliveries c.requires.node c.requires.enabled c.requires.from (sym c.take.ensures.taken ∙ c.unwrap-message.ensures) c.take.ensures.items c.take.ensures.accepted (ap (λ n. n + 1) c.max-stamp.ensures) c.handle.ensures).node
+    (delivery_made c.args.setup.now c.args.code.now c.args.me c.args.state.now c.handle.new.state c.args.from c.args.chan
+    c.unwrap-message.result c.take.new.self (c.max-stamp.result + 1) c.handler_events_are_made.ensures.deliveries
+    c.requires.node c.requires.enabled c.requires.from (sym c.take.ensures.taken
+    ∙ c.unwrap-message.ensures) c.take.ensures.items c.take.ensures.accepted (ap (λ n. n + 1) c.max-stamp.ensures)
+    c.handle.ensures).node
