@@ -1,0 +1,14 @@
+use Rattle.std.proofs.Common.{◌≡◌, length, arith}
+use Rattle.event_masks.proofs.Telling.{none_picked, passed_node, picked}
+use Rattle.event_masks.proofs.masks.pick.Goals as goal
+
+pub returns-then-more-count : goal.returns-then-more-count
+returns-then-more-count c = picked c.args.words.now c.loop-number.number c.numbered-node.result c.from.result c.args.k c.loop-number.more c.event_told.result c.loop-number-test.true c.from.ensures c.numbered-node.ensures c.requires.small c.loop-number.invariant c.if-more-count.true c.event_told.ensures
+
+pub loop-number-preserved : goal.loop-number-preserved
+loop-number-preserved c = passed_node c.args.words.now c.loop-number.number c.from.result c.args.k c.loop-number.more c.loop-number-test.true c.from.ensures c.requires.small c.loop-number.invariant c.if-more-count.false
+
+pub returns : goal.returns
+returns c =
+    let end : c.loop-number.number ≡ length c.args.words.now = omega (arith, c.loop-number-test.false, c.loop-number.auto.number-end) in
+    none_picked c.args.words.now c.loop-number.number c.args.k c.loop-number.more end c.loop-number.invariant
