@@ -1,5 +1,5 @@
 -- The tests of a node as one word of bits.
-use Rattle.std.proofs.Common.{◌≡◌, ◌∙◌, ℕ, zero, suc, ◌+◌, ◌*◌, ◌<◌, ◌≤◌, Bool, true, false, not, ◌&&◌, if◌then◌else◌, List, [], ◌∷◌, ◌++◌, map, refl, ap, sym, arith}
+use Rattle.std.proofs.Common.{◌≡◌, ◌∙◌, ℕ, zero, suc, ◌+◌, ◌*◌, ◌<◌, ◌≤◌, Bool, true, false, not, ◌&&◌, List, [], ◌∷◌, ◌++◌, map, refl, ap, sym, arith}
 use Rattle.std.proofs.lemmas.Nat.Bits.{bit_at-zero}
 use Rattle.std.proofs.lemmas.List.{map-append}
 use Rattle.tw_base.specs.Bits.{has_bit}
@@ -9,6 +9,7 @@ use Rattle.tw_base.specs.declared.message.Chan.TheVariants.{Zero, One}
 use Rattle.dsm_runs.specs.Messages.{place}
 use Rattle.dsm_runs.specs.Schedules.{deliveries}
 use Rattle.dsm_runs.specs.Tests.{has_eligible, is_early, may_handle, may_instruct}
+use Rattle.node_acts.specs.Early.{early_if}
 use Rattle.node_parts.specs.Masks.{IsMask}
 use Rattle.node_parts.specs.Truths.{truths}
 use Rattle.node_parts.proofs.Masking.{truths_more}
@@ -33,10 +34,6 @@ deliveries_tests n w (suc f) all =
     join : (bs : List Bool) (a b : Bool) → bs ++ a ∷ b ∷ [] ≡ (bs ++ a ∷ []) ++ b ∷ []
     join [] a b = refl
     join (x ∷ bs) a b = ap (λ cs. x ∷ cs) (join bs a b)
-
--- the bits that tell of deliveries, where none is made unless messages are taken
-abbrev pub early_if : Bool → Bool → ℕ → ℕ
-early_if handles eligible early = if handles && not eligible then early else 0
 
 no_bit : (k : ℕ) → has_bit 0 k ≡ false
 no_bit k = rw (bit_at-zero k) refl

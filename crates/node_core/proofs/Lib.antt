@@ -1,3 +1,6 @@
 pub mod Posted
 pub mod HandlerRuns
 pub mod Takes
+pub mod Nodes
+pub mod Stepping
+pub mod Early

@@ -1,2 +1,4 @@
 pub mod States
 pub mod Handlers
+pub mod Steps
+pub mod Testing
