@@ -1,0 +1,4 @@
+pub mod Stills
+pub mod Gathers
+pub mod Reading
+pub mod Laws
