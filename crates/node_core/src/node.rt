@@ -139,6 +139,20 @@ impl<'a> Node<'a> {
         all_tests(self.setup, &self.state)
     }
 
+    /// How many messages the node accepted from the wire from a node.
+    pub fn accepted(&self, from: NodeId, chan: Chan) -> u64
+        ensures { result ≡ accepted_at self.now from chan }
+    {
+        self.state.fronts.accepted(from, chan)
+    }
+
+    /// What is fixed in the node's runs.
+    pub fn setup(&self) -> &Setup
+        ensures { result.now ≡ self.now.setup }
+    {
+        self.setup
+    }
+
     /// Keeps a message as the front of its wire. It is fit, and the next in number.
     pub fn accept(&mut self, m: Message)
         requires free { front_at self.old m.from m.chan ≡ None }
@@ -189,6 +203,7 @@ impl<'a> Node<'a> {
 
     /// Hands out the message that has waited longest.
     pub fn out_pop(&mut self) -> Option<Message>
+        ensures first { result ≡ slice_get self.old.waiting 0 }
         ensures popped { self.old.waiting ≡ option_to_list result ++ self.new.waiting }
         ensures fit { IfSome result (λ m. IsFit self.old.setup self.old.me m.to m) }
         ensures same { self.new ≡ record self.old { waiting = self.new.waiting } }

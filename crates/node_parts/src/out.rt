@@ -75,6 +75,7 @@ impl Out {
 
     /// Takes the message that has waited longest.
     pub fn pop(&mut self) -> Option<Message>
+        ensures first { result ≡ slice_get self.old.waiting 0 }
         ensures popped { self.old.waiting ≡ option_to_list result ++ self.new.waiting }
         ensures posted { self.new.posted ≡ self.old.posted }
         ensures room { self.new.room ≡ self.old.room }
