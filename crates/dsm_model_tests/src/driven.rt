@@ -2,7 +2,10 @@ ghost use Rattle.dsm_model.specs.Globals.{setup_of, world_of};
 ghost use Rattle.dsm_runs.specs.Worlds.{IsEnabled};
 
 use crate::rows::{event_of, wire_line, wire_of};
-use crate::tables;
+use driven_rows::{
+    DEFERRED, DEFERRED_EVENTS, DEFERRED_REPORT, LAPSED, LAPSED_EVENTS, LAPSED_REPORT, TWO_RESTS,
+    TWO_RESTS_EVENTS, TWO_RESTS_REPORT, WRITERS, WRITERS_EVENTS, WRITERS_REPORT,
+};
 use dsm_model::{Global, Setup, enabled, settle, step};
 use journal::{Options, finals_of, first_break, report, words_of};
 use mini_asm::Flat;
@@ -121,22 +124,10 @@ fn is_driven(
 fn events_are_made(rt: HostRuntime) -> Result<(), Fail> {
     let alloc = rt.alloc();
     for (text, rows, due) in [
-        (
-            tables::WRITERS,
-            tables::WRITERS_EVENTS,
-            tables::WRITERS_REPORT,
-        ),
-        (
-            tables::DEFERRED,
-            tables::DEFERRED_EVENTS,
-            tables::DEFERRED_REPORT,
-        ),
-        (tables::LAPSED, tables::LAPSED_EVENTS, tables::LAPSED_REPORT),
-        (
-            tables::TWO_RESTS,
-            tables::TWO_RESTS_EVENTS,
-            tables::TWO_RESTS_REPORT,
-        ),
+        (WRITERS, WRITERS_EVENTS, WRITERS_REPORT),
+        (DEFERRED, DEFERRED_EVENTS, DEFERRED_REPORT),
+        (LAPSED, LAPSED_EVENTS, LAPSED_REPORT),
+        (TWO_RESTS, TWO_RESTS_EVENTS, TWO_RESTS_REPORT),
     ] {
         is_driven(&rt, alloc, text, rows, due)?;
     }

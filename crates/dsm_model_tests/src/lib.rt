@@ -6,5 +6,3 @@
 mod driven;
 #[cfg(test)]
 mod rows;
-#[cfg(test)]
-mod tables;

@@ -1,5 +1,10 @@
-//! Machines, the events that they are driven by, and the reports of their runs, worked out by hand. A row is an event that is
-//! made, an event that is not enabled, or what is on a wire.
+//! Machines that are driven event by event under Stache, for tests of the model, of coherence and of all nodes on one thread:
+//! their texts, the events, and the reports of their runs, worked out by hand.
+//!
+//! A row of events is an event that is made, as `I 0` of an instruction at node 0, `R 2` of a redelivery at node 2 and
+//! `D 2 0 1` of a delivery at node 2 from node 0 on channel 1; or an event that is not enabled; or what is on a wire then, as
+//! `W 0 2 1` for the wire from node 0 to node 2 on channel 1.
+#![tactic(auto)]
 
 /// Two nodes read a word of a third and write it.
 pub const WRITERS: &str = "tempest 1
@@ -294,6 +299,23 @@ event 18 stamp 15 node 1 ld 3 9
 event 19 stamp 14 node 0 halt
 event 20 stamp 16 node 1 halt
 event 21 stamp 12 node 2 halt
+history agrees
+end
+";
+
+/// Its report with counts and without the events.
+pub const TWO_RESTS_COUNTS: &str = "tempest report 1 nodes 3 words 1 blocks 4 budget 4000
+word 0 9
+word 3 9
+register 0 1 9
+register 1 1 9
+register 2 1 9
+node 0 halted place 1 instructions 3 handlers 5
+node 1 halted place 1 instructions 3 handlers 1
+node 2 halted place 3 instructions 6 handlers 4
+counts 0 ops 36 records 2
+counts 1 ops 9 records 1
+counts 2 ops 28 records 2
 history agrees
 end
 ";
