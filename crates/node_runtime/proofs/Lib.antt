@@ -1,0 +1,4 @@
+pub mod Placing
+pub mod Opened
+pub mod Ran
+pub mod Sharing
