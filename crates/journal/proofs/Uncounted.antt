@@ -11,7 +11,7 @@ use Rattle.journal.specs.declared.finals.Final.{Final}
 use Rattle.journal.specs.declared.history.Break.{Break}
 use Rattle.journal.specs.declared.reports.Options.{Options}
 
-lines_alike : (line : ℕ × Final → List ℕ) (f h : ℕ → Final) → ((k i : ℕ) → line (k, f i) ≡ line (k, h i)) → (k a n : ℕ) →
+pub lines_alike : (line : ℕ × Final → List ℕ) (f h : ℕ → Final) → ((k i : ℕ) → line (k, f i) ≡ line (k, h i)) → (k a n : ℕ) →
     flat_map line (enumerate_from k (map f (range_with_len a n))) ≡ flat_map line
     (enumerate_from k (map h (range_with_len a n)))
 lines_alike line f h e k a zero = refl

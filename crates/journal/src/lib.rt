@@ -27,4 +27,5 @@ pub use laws::{
     followed_journals_have_no_break, history_is_told, read_words_are_told, report_has_the_prints,
 };
 pub use merging::merge;
-pub use reports::{Options, report};
+pub use node_lines::add_outcome;
+pub use reports::{Options, add_history, report};

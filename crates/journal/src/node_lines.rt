@@ -55,7 +55,8 @@ pub fn add_all_registers(out: &mut Text, finals: &[Final]) -> Result<(), Memory>
     Ok(())
 }
 
-fn add_outcome(out: &mut Text, names: &Names, outcome: Outcome) -> Result<(), Memory>
+/// How a node ended, behind a space.
+pub fn add_outcome(out: &mut Text, names: &Names, outcome: Outcome) -> Result<(), Memory>
     ensures { OnOk result (out.new ≡ out.old ++ spaced (outcome_words names.now.protocol.now outcome)) }
 {
     match outcome {

@@ -67,7 +67,8 @@ fn add_break(out: &mut Text, broken: Break) -> Result<(), Memory>
     )
 }
 
-fn add_history(out: &mut Text, broken: Option<Break>) -> Result<(), Memory>
+/// The line of the history: that it agrees, or its first break.
+pub fn add_history(out: &mut Text, broken: Option<Break>) -> Result<(), Memory>
     ensures { OnOk result (out.new ≡ out.old ++ history_line broken) }
 {
     match broken {
