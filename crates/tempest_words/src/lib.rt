@@ -1,13 +1,15 @@
 //! What the words of the command line ask for: a command, its number, and the options.
 //!
-//! `asked` answers exactly what the definition of the words gives, or that they ask for nothing. It reads no input,
-//! writes nothing and takes no memory.
+//! The words are parted by `clap`, as those of one simple command. `asked` answers exactly what the definition of the words
+//! gives, or that they ask for nothing. It reads no input and writes nothing.
 #![tactic(auto)]
 
+mod parting;
+mod parts;
 mod request;
 #[cfg(test)]
 mod tests;
 mod words;
 
 pub use request::{Asked, Command};
-pub use words::asked;
+pub use words::{WordsError, asked};

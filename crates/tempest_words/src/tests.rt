@@ -1,4 +1,4 @@
-use crate::{Asked, Command, asked};
+use crate::{Asked, Command, WordsError, asked};
 use std::alloc::Global;
 use std::test::Fail;
 
@@ -10,7 +10,9 @@ serial 007 => serial:7
 serial 4294967295 => serial:4294967295
 serial 4294967296 => nothing
 serial -1 => nothing
+serial +1 => nothing
 serial x => nothing
+serial - => nothing
 check => check
 code => code
 code 0 => nothing
@@ -19,6 +21,7 @@ show => show
 check 0 => nothing
 check --journal => nothing
 check --meaning => nothing
+check --batch=16 => nothing
 show --journal => nothing
 show --meaning => nothing
 serial 0 --journal => serial:0+journal
@@ -28,10 +31,36 @@ serial --journal 0 --meaning => serial:0+journal+meaning
 --meaning --journal serial 0 => serial:0+journal+meaning
 serial 0 --journal --journal => nothing
 serial 0 --meaning --journal --meaning => nothing
-serial 0 --counts => nothing
+serial 0 --journal=1 => nothing
+serial 0 --journal= => nothing
+serial 0 --journals => nothing
+serial 0 --j => nothing
+serial 0 --counts => serial:0+counts
+--counts serial 0 => serial:0+counts
+serial --counts -- 0 => serial:0+counts
+serial 0 --journal --counts => serial:0+journal+counts
+serial 0 --counts --journal => serial:0+journal+counts
+serial 0 --counts --counts => nothing
+serial 0 --counts --meaning => nothing
+serial 0 --meaning --counts => nothing
+serial 0 --meaning --journal --counts => nothing
+serial 0 --counts=1 => nothing
+serial 0 --count => nothing
+serial 0 -- --counts => nothing
+serial -- --counts => nothing
+--counts => nothing
+check --counts => nothing
+code --counts => nothing
+show --counts => nothing
+table --counts => nothing
 serial 0 --batch 5 => nothing
 serial 0 --batch=5 => nothing
 serial 0 -journal => nothing
+serial 0 -j => nothing
+serial 0 -h => nothing
+serial 0 --help => nothing
+serial 0 --version => nothing
+help => nothing
 --journal => nothing
 -- serial 0 => serial:0
 serial -- 0 => serial:0
@@ -39,10 +68,10 @@ serial -- 0 => serial:0
 serial 0 -- --journal => nothing
 serial -- --journal => nothing
 - => nothing
-run => nothing
 table => table
 table 0 => nothing
 table --journal => nothing
+table --batch 1 => nothing
 table -- => table
 Table => nothing
 Check => nothing
@@ -51,7 +80,54 @@ serial 0 1 => nothing
 check -- => check
 check -- -- => nothing
 -- -- check => nothing
--- => nothing";
+-- => nothing
+run => run/16
+run 0 => nothing
+run run => nothing
+run --journal => run/16+journal
+run --counts => run/16+counts
+run --counts --journal => run/16+journal+counts
+run --journal --journal => nothing
+run --meaning => nothing
+run --batch 1 => run/1
+run --batch=1000 => run/1000
+run --batch 1000 --counts => run/1000+counts
+run --batch=0016 => run/16
+--batch=5 run => run/5
+--batch 5 run => run/5
+--batch run 5 => nothing
+run --batch 0 => nothing
+run --batch 1001 => nothing
+run --batch=0 => nothing
+run --batch= => nothing
+run --batch => nothing
+run --batch=x => nothing
+run --batch -1 => nothing
+run --batch +1 => nothing
+run --batch - => nothing
+run --batch --journal => nothing
+run --batch --batch => nothing
+run --batch --batch=5 => nothing
+run --batch=5 --batch=5 => nothing
+run --batch 5 --batch 5 => nothing
+run --batch=5 --batch => nothing
+run --batch -- 5 => nothing
+--batch -- run => nothing
+run -- --batch => nothing
+run -- --batch=5 => nothing
+run --batches=5 => nothing
+sample => nothing
+sample 5 => sample:5/16
+sample 4294967295 => sample:4294967295/16
+sample 4294967296 => nothing
+sample 5 --batch 7 => sample:5/7
+--batch=7 sample 05 => sample:5/7
+sample --batch 7 -- 5 => sample:5/7
+sample 5 --journal => nothing
+sample 5 --counts => nothing
+sample 5 --meaning => nothing
+sample 5 5 => nothing
+sample five => nothing";
 
 fn words(alloc: Global, line: &str) -> Result<Vec<String>, Fail> {
     let mut words = Vec::new(alloc);
@@ -63,24 +139,39 @@ fn words(alloc: Global, line: &str) -> Result<Vec<String>, Fail> {
     Ok(words)
 }
 
-fn shown(alloc: Global, asked: Option<Asked>) -> Result<String, Fail> {
-    let Some(asked) = asked else {
-        return Ok(String::from_str(alloc, "nothing")?);
-    };
-    let mut text = match asked.command {
-        Command::Check => String::from_str(alloc, "check")?,
-        Command::Code => String::from_str(alloc, "code")?,
-        Command::Show => String::from_str(alloc, "show")?,
-        Command::Table => String::from_str(alloc, "table")?,
-        Command::Serial(stride) => format!(in alloc; "serial:{stride}")?,
-    };
+fn command(alloc: Global, asked: Asked) -> Result<String, Fail> {
+    let batch = asked.batch;
+    match asked.command {
+        Command::Run => Ok(format!(in alloc; "run/{batch}")?),
+        Command::Check => Ok(String::from_str(alloc, "check")?),
+        Command::Code => Ok(String::from_str(alloc, "code")?),
+        Command::Show => Ok(String::from_str(alloc, "show")?),
+        Command::Table => Ok(String::from_str(alloc, "table")?),
+        Command::Serial(stride) => Ok(format!(in alloc; "serial:{stride}")?),
+        Command::Sample(number) => Ok(format!(in alloc; "sample:{number}/{batch}")?),
+    }
+}
+
+fn shown(alloc: Global, asked: Asked) -> Result<String, Fail> {
+    let mut text = command(alloc, asked)?;
     if asked.journal {
         text.push_str("+journal")?;
+    }
+    if asked.counts {
+        text.push_str("+counts")?;
     }
     if asked.meaning {
         text.push_str("+meaning")?;
     }
     Ok(text)
+}
+
+fn answer(alloc: Global, words: &[String]) -> Result<String, Fail> {
+    match asked(alloc, words) {
+        Ok(asked) => shown(alloc, asked),
+        Err(WordsError::Usage) => Ok(String::from_str(alloc, "nothing")?),
+        Err(WordsError::Memory) => Err(Fail::new("out of memory")),
+    }
 }
 
 #[test]
@@ -89,8 +180,9 @@ fn lines_ask(rt: HostRuntime) -> Result<(), Fail> {
         let (line, expected) = row.split_once("=> ").ok_or("row")?;
         let words = words(rt.alloc(), line)?;
         assert_eq!(rt;
-            shown(rt.alloc(), asked(words.as_slice()))?.as_str(),
-            expected
+            answer(rt.alloc(), words.as_slice())?.as_str(),
+            expected,
+            "{line}"
         );
     }
     Ok(())

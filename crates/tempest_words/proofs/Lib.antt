@@ -1,0 +1,10 @@
+pub mod Advancing
+pub mod Dashed
+pub mod Failing
+pub mod Matching
+pub mod Rows
+pub mod Rules
+pub mod Settling
+pub mod Showing
+pub mod Turns
+pub mod Walking
