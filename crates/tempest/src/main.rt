@@ -1,10 +1,11 @@
 //! Reads an input from standard input, does what the words ask for, and writes the answer to standard output.
 #![tactic(auto)]
 
+use node_runtime::OpenGate;
 use std::io::ErrorKind;
 use std::process::ExitCode;
 use std::{env, io};
-use tempest_run::{Status, tempest_plain};
+use tempest_run::{Status, tempest};
 use tw_io::{StdSink, StdSource};
 
 // The words after the program's name, or no words where one of them is no text. None for want of memory.
@@ -28,5 +29,6 @@ fn main(rt: HostRuntime) -> ExitCode {
     };
     let mut source = StdSource::new(rt.reader());
     let mut sink = StdSink::new(io::writer(&rt));
-    ExitCode::from(tempest_plain(alloc, &words, &mut source, &mut sink).code())
+    let status = tempest(&rt, alloc, &words, &mut source, &mut sink, &OpenGate);
+    ExitCode::from(status.code())
 }

@@ -1,10 +1,10 @@
 -- An answer is one.
-use Rattle.std.proofs.Common.{◌≡◌, ℕ, List, Bool, true, false, if◌then◌else◌, Result, Ok, Err, sym, ap, subst, ◌∙◌}
+use Rattle.std.proofs.Common.{◌≡◌, ℕ, List, Bool, true, false, if◌then◌else◌, Result, Ok, Err, refl, sym, ap, subst, ◌∙◌}
 use Rattle.tw_base.specs.declared.entry.Entry.{Entry}
 use Rattle.tempest_input.specs.declared.error.InputError.{InputError}
 use Rattle.tempest_input.specs.declared.error.InputError.TheVariants.{Refused, Memory}
 use Rattle.tempest_words.specs.declared.request.Command.{Command}
-use Rattle.tempest_words.specs.declared.request.Command.TheVariants.{Check, Code as ForCode, Show, Serial, Table}
+use Rattle.tempest_words.specs.declared.request.Command.TheVariants.{Check, Code as ForCode, Run, Sample, Show, Serial, Table}
 use Rattle.dsm_runs.specs.Schedules.{Settles}
 use Rattle.dsm_runs.specs.Setups.{Setup}
 use Rattle.dsm_runs.specs.Worlds.{World, start}
@@ -13,11 +13,16 @@ use Rattle.teapot_tree.specs.declared.protocol.Protocol.{Protocol}
 use Rattle.handler_code.specs.declared.code.Code.{Code}
 use Rattle.compiled_meaning.specs.Whole.{IsCode}
 use Rattle.tempest_run.specs.declared.answer.Answer.{Answer}
-use Rattle.tempest_run.specs.Answering.{Answers, AnswersIn, IsAnswerIf, IsAnswered, TellsOfCode, TellsOfRun, check_answer, code_answer, has_halted, reads_input, refusal, report_answer, show_answer, status_of, table_answer}
+use Rattle.tempest_run.specs.Answering.{Answers, AnswersAlone, AnswersIn, IsAnswerIf, IsAnswered, TellsOfCode, TellsOfRun, check_answer, code_answer}
+use Rattle.tempest_run.specs.Answering.{has_halted, is_threaded, reads_input, refusal, report_answer, sample_answer, show_answer}
+use Rattle.tempest_run.specs.Answering.{status_of, table_answer}
 use Rattle.tempest_run.specs.Laws.{AnswerIsOne}
 use Rattle.tempest_run.specs.declared.status.Status.TheVariants.{Done, Unfinished}
 use Rattle.tempest_run.proofs.CallLaws.{AnswersAnswer}
-use Rattle.journal.specs.Finals.{finals_of}
+use Rattle.tempest_run.proofs.Uncounted.{counts_unseen}
+use Rattle.journal.specs.Finals.{counted_finals}
+use Rattle.node_meaning.specs.Tallies.{Tally}
+use Rattle.counted_runs.specs.Counted.{CountsAreOne, HasCounts}
 use Rattle.journal.specs.declared.finals.Final.{Final}
 use Rattle.std.specs.List.{list_all}
 use Rattle.tempest_run.specs.Inputs.{input_of}
@@ -30,35 +35,77 @@ RunsAreOne = (s : Setup) (stride t : ℕ) (g : World) (es fs : List Entry) (h k 
 abbrev pub CodesAreOne : Type 0
 CodesAreOne = (p : Protocol) (a b : Code) → IsCode p a → IsCode p b → a ≡ b
 
-same_report : (s : Setup) (o : Options) (j k : List Entry) (g h : World) → j ≡ k → g ≡ h → report_answer s j g o ≡ report_answer s k h o
-same_report s o j k g h e f = ap (λ x. report_answer s x g o) e ∙ ap (λ x. report_answer s k x o) f
+-- a run has one tally for each node
+same_counts :
+    CountsAreOne → (s : Setup) (j k : List Entry) (g h : World) (a b : ℕ → Tally) → j ≡ k → HasCounts s j g a →
+    HasCounts s k h b → a ≡ b
+same_counts one s j k g h a b e p q = one s j g h a b p (subst (λ (es : List Entry). HasCounts s es h b) (sym e) q)
 
-one_tale : RunsAreOne → (s : Setup) (stride : ℕ) (o : Options) (a b : Answer) → TellsOfRun s stride o a → TellsOfRun s stride o b → a ≡ b
-one_tale one s stride o a b x y =
+-- where no counts are asked for, a report is the same whatever was counted
+same_report :
+    (s : Setup) (o : Options) (j k : List Entry) (g h : World) (x y : ℕ → Tally) → j ≡ k → g ≡ h → (o.counts ≡ true → x ≡ y) →
+    report_answer s j g (λ i. (x i).ops) (λ i. (x i).records) o ≡ report_answer s k h (λ i. (y i).ops) (λ i. (y i).records) o
+same_report s o j k g h x y e f counts =
+    ap (λ es. report_answer s es g (λ i. (x i).ops) (λ i. (x i).records) o) e
+    ∙ ap (λ w. report_answer s k w (λ i. (x i).ops) (λ i. (x i).records) o) f ∙ go o.counts refl
+  where
+    go : (asked : Bool) → o.counts ≡ asked →
+        report_answer s k h (λ i. (x i).ops) (λ i. (x i).records) o ≡ report_answer s k h (λ i. (y i).ops) (λ i. (y i).records) o
+    go true is = ap (λ (t : ℕ → Tally). report_answer s k h (λ i. (t i).ops) (λ i. (t i).records) o) (counts is)
+    go false is =
+        counts_unseen s k h (λ i. (x i).ops) (λ i. (x i).records) o is
+        ∙ sym (counts_unseen s k h (λ i. (y i).ops) (λ i. (y i).records) o is)
+
+one_tale :
+    RunsAreOne → CountsAreOne → (s : Setup) (stride : ℕ) (o : Options) (a b : Answer) → TellsOfRun s stride o a →
+    TellsOfRun s stride o b → a ≡ b
+one_tale one counts s stride o a b x y =
     let same = one s stride 0 (start s) x.journal y.journal x.state y.state x.run.schedule y.run.schedule in
-    x.tells ∙ same_report s o x.journal y.journal x.state y.state same.0 same.1 ∙ sym y.tells
+    x.tells
+    ∙ same_report s o x.journal y.journal x.state y.state x.counts y.counts same.0 same.1
+    (λ asked.
+    same_counts counts s x.journal y.journal x.state y.state x.counts y.counts same.0 (x.counted asked) (y.counted asked))
+    ∙ sym y.tells
 
 one_text : CodesAreOne → (p : Protocol) (a b : Answer) → TellsOfCode p a → TellsOfCode p b → a ≡ b
 one_text one p a b x y = x.tells ∙ ap (λ code. code_answer p code) (one p x.code y.code x.is_code y.is_code) ∙ sym y.tells
 
-one_about : RunsAreOne → CodesAreOne → (command : Command) (o : Options) (s : Setup) (a b : Answer) → Answers command o s a → Answers command o s b → a ≡ b
-one_about one code (Serial stride) o s a b x y = one_tale one s stride o a b x y
-one_about one code Check o s a b x y = x ∙ sym y
-one_about one code ForCode o s a b x y = one_text code s.protocol a b x y
-one_about one code Show o s a b x y = x ∙ sym y
-one_about one code Table o s a b x y = x ∙ sym y
+one_about :
+    RunsAreOne → CountsAreOne → CodesAreOne → (command : Command) (o : Options) (s : Setup) (a b : Answer) →
+    is_threaded command ≡ false → Answers command o s a → Answers command o s b → a ≡ b
+one_about one counts code Run o s a b plain x y = absurd cc
+one_about one counts code (Serial stride) o s a b plain x y = one_tale one counts s stride o a b x y
+one_about one counts code Check o s a b plain x y = x ∙ sym y
+one_about one counts code ForCode o s a b plain x y = one_text code s.protocol a b x y
+one_about one counts code Show o s a b plain x y = x ∙ sym y
+one_about one counts code Table o s a b plain x y = absurd x
+one_about one counts code (Sample k) o s a b plain x y = absurd x
 
-one_in : RunsAreOne → CodesAreOne → (command : Command) (o : Options) (r : Result Setup InputError) (a b : Answer) → AnswersIn command o r a → AnswersIn command o r b → a ≡ b
-one_in one code command o (Ok s) a b x y = one_about one code command o s a b x y
-one_in one code command o (Err (Refused number reason)) a b x y = x ∙ sym y
-one_in one code command o (Err Memory) a b x y = absurd x
+one_in :
+    RunsAreOne → CountsAreOne → CodesAreOne → (command : Command) (o : Options) (r : Result Setup InputError) (a b : Answer) →
+    is_threaded command ≡ false → AnswersIn command o r a → AnswersIn command o r b → a ≡ b
+one_in one counts code command o (Ok s) a b plain x y = one_about one counts code command o s a b plain x y
+one_in one counts code command o (Err (Refused number reason)) a b plain x y = x ∙ sym y
+one_in one counts code command o (Err Memory) a b plain x y = absurd x
 
-one_if : RunsAreOne → CodesAreOne → (reads : Bool) (command : Command) (o : Options) (text : List ℕ) (a b : Answer) → IsAnswerIf reads command o text a → IsAnswerIf reads command o text b → a ≡ b
-one_if one code true command o text a b x y = one_in one code command o (input_of text) a b x y
-one_if one code false command o text a b x y = x ∙ sym y
+one_alone : (command : Command) (a b : Answer) → is_threaded command ≡ false → AnswersAlone command a → AnswersAlone command b → a ≡ b
+one_alone Table a b plain x y = x ∙ sym y
+one_alone (Sample k) a b plain x y = absurd cc
+one_alone Run a b plain x y = absurd x
+one_alone (Serial stride) a b plain x y = absurd x
+one_alone Check a b plain x y = absurd x
+one_alone ForCode a b plain x y = absurd x
+one_alone Show a b plain x y = absurd x
 
-pub one_answer : RunsAreOne → CodesAreOne → AnswerIsOne
-one_answer one code asked text a b x y = one_if one code (reads_input asked.command) asked.command _ text a b x y
+one_if :
+    RunsAreOne → CountsAreOne → CodesAreOne → (reads : Bool) (command : Command) (o : Options) (text : List ℕ) (a b : Answer) →
+    is_threaded command ≡ false → IsAnswerIf reads command o text a → IsAnswerIf reads command o text b → a ≡ b
+one_if one counts code true command o text a b plain x y = one_in one counts code command o (input_of text) a b plain x y
+one_if one counts code false command o text a b plain x y = one_alone command a b plain x y
+
+pub one_answer : RunsAreOne → CountsAreOne → CodesAreOne → AnswerIsOne
+one_answer one counts code asked text a b plain x y =
+    one_if one counts code (reads_input asked.command) asked.command _ text a b plain x y
 
 -- ---- the statuses of answers
 
@@ -68,21 +115,39 @@ report-status fs = elim (list_all (λ f. has_halted f.outcome) fs) as (λ b. IsA
 status-along : (a b : Answer) → a ≡ b → IsAnswered b.status → IsAnswered a.status
 status-along a b e is = subst (λ (x : Answer). IsAnswered x.status) (sym e) is
 
+told-status :
+    (s : Setup) (j : List Entry) (g : World) (ops records : ℕ → ℕ) (o : Options) (a : Answer) → a ≡ report_answer s j g ops records o →
+    IsAnswered a.status
+told-status s j g ops records o a e =
+    status-along a (report_answer s j g ops records o) e (report-status (counted_finals s g ops records))
+
 about-status : (command : Command) (o : Options) (s : Setup) (a : Answer) → Answers command o s a → IsAnswered a.status
-about-status (Serial stride) o s a x = status-along a (report_answer s x.journal x.state o) x.tells (report-status (finals_of s x.state))
+about-status Run o s a x = told-status s x.journal x.state (λ i. (x.counts i).ops) (λ i. (x.counts i).records) o a x.tells
+about-status (Serial stride) o s a x =
+    told-status s x.journal x.state (λ i. (x.counts i).ops) (λ i. (x.counts i).records) o a x.tells
 about-status Check o s a x = status-along a (check_answer s.protocol) x tt
 about-status ForCode o s a x = status-along a (code_answer s.protocol x.code) x.tells tt
 about-status Show o s a x = status-along a (show_answer s.protocol) x tt
-about-status Table o s a x = status-along a table_answer x tt
+about-status Table o s a x = absurd x
+about-status (Sample k) o s a x = absurd x
 
 in-status : (command : Command) (o : Options) (r : Result Setup InputError) (a : Answer) → AnswersIn command o r a → IsAnswered a.status
 in-status command o (Ok s) a x = about-status command o s a x
 in-status command o (Err (Refused number reason)) a x = status-along a (refusal number reason) x tt
 in-status command o (Err Memory) a x = absurd x
 
+alone-status : (command : Command) (a : Answer) → AnswersAlone command a → IsAnswered a.status
+alone-status Table a x = status-along a table_answer x tt
+alone-status (Sample k) a x = status-along a (sample_answer k x.journal x.state) x.tells tt
+alone-status Run a x = absurd x
+alone-status (Serial stride) a x = absurd x
+alone-status Check a x = absurd x
+alone-status ForCode a x = absurd x
+alone-status Show a x = absurd x
+
 if-status : (reads : Bool) (command : Command) (o : Options) (text : List ℕ) (a : Answer) → IsAnswerIf reads command o text a → IsAnswered a.status
 if-status true command o text a x = in-status command o (input_of text) a x
-if-status false command o text a x = status-along a table_answer x tt
+if-status false command o text a x = alone-status command a x
 
 -- a text is answered with one of three statuses
 pub answers-answer : AnswersAnswer

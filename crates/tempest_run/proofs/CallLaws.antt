@@ -36,7 +36,7 @@ ends-say : AnswersAnswer → (asked : Option Asked) (s t k h : Told) (got : List
 ends-say answers asked s t k h got _ (wrote due text is w) = due-says answers asked s t k h got due text is w
 ends-say answers asked s t k h got _ (write_fault due text is w rose) = (rose, (due, text, is, w))
 ends-say answers asked s t k h got _ (read_fault q e few rose kept) = (few, rose, kept)
-ends-say answers asked s t k h got _ (no_memory q e kept) = kept
+ends-say answers asked s t k h got _ (no_memory kept) = kept
 
 pub statuses_say : AnswersAnswer → StatusesSay
 statuses_say answers asked s t k h result call = ends-say answers asked s t k h call.got result call.ends
@@ -48,11 +48,11 @@ none-due asked s t got _ _ none (bad_words e nothing kept) = refl
 none-due asked s t got _ _ none (bad_length q e long) = absurd (cc (none, e))
 none-due asked s t got _ _ none (answered q a e input is) = absurd (cc (none, e))
 
-none-ends : (asked : Option Asked) (s t k h : Told) (got : List ℕ) (result : Status) → asked ≡ None → ¬ Rose k.faults h.faults → Ends asked s t k h got result → result ≡ statuses.Usage
-none-ends asked s t k h got _ none well (wrote due text is w) = none-due asked s t got due text none is
+none-ends : (asked : Option Asked) (s t k h : Told) (got : List ℕ) (result : Status) → asked ≡ None → ¬ Rose k.faults h.faults → Ends asked s t k h got result → (result ≡ statuses.Memory) ⊎ (result ≡ statuses.Usage)
+none-ends asked s t k h got _ none well (wrote due text is w) = inr (none-due asked s t got due text none is)
 none-ends asked s t k h got _ none well (write_fault due text is w rose) = absurd (well rose)
 none-ends asked s t k h got _ none well (read_fault q e few rose kept) = absurd (cc (none, e))
-none-ends asked s t k h got _ none well (no_memory q e kept) = absurd (cc (none, e))
+none-ends asked s t k h got _ none well (no_memory kept) = inl refl
 
 pub words_are_refused : WordsAreRefused
 words_are_refused s t k h result call well = none-ends None s t k h call.got result refl well call.ends
@@ -70,7 +70,7 @@ long-ends : (asked : Option Asked) (s t k h : Told) (got : List ℕ) (result : S
 long-ends asked s t k h got _ long well (wrote due text is w) = inr (long-due asked s t got due text long is)
 long-ends asked s t k h got _ long well (write_fault due text is w rose) = absurd (well rose)
 long-ends asked s t k h got _ long well (read_fault q e few rose kept) = absurd (omega (arith, few, long))
-long-ends asked s t k h got _ long well (no_memory q e kept) = inl refl
+long-ends asked s t k h got _ long well (no_memory kept) = inl refl
 
 pub length_is_refused : LengthIsRefused
 length_is_refused asked s t k h result call long well = long-ends asked s t k h call.got result long well call.ends
@@ -104,7 +104,7 @@ ends-answer : (q : Asked) (asked : Option Asked) (s t k h : Told) (text got : Li
 ends-answer q asked s t k h text got _ e reads gone few in_well out_well (wrote due w is out) = inr (due-answers q asked s t k h text got due w e reads gone few is out)
 ends-answer q asked s t k h text got _ e reads gone few in_well out_well (write_fault due w is out rose) = absurd (out_well rose)
 ends-answer q asked s t k h text got _ e reads gone few in_well out_well (read_fault r f some rose kept) = absurd (in_well rose)
-ends-answer q asked s t k h text got _ e reads gone few in_well out_well (no_memory r f kept) = inl refl
+ends-answer q asked s t k h text got _ e reads gone few in_well out_well (no_memory kept) = inl refl
 
 pub input_is_answered : InputIsAnswered
 input_is_answered q s t k h result text call in_well out_well reads is few =

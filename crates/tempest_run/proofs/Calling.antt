@@ -1,6 +1,6 @@
 -- The parts of a call make the call.
-use Rattle.std.proofs.Common.{◌≡◌, ℕ, ◌≤◌, List, Option, Ok, Err, refl, sym, subst, arith}
-use Rattle.std.specs.Io.KnownBytes.{Appends}
+use Rattle.std.proofs.Common.{◌≡◌, ℕ, ◌≤◌, List, [], Option, Some, None, Ok, Err, refl, sym, subst, arith}
+use Rattle.std.specs.Io.KnownBytes.{Appends, Consumes}
 use Rattle.tw_io.specs.Causes.{Rose}
 use Rattle.tw_io.specs.Reading.{AppendsPrefix}
 use Rattle.tw_io.specs.Told.{Told}
@@ -38,13 +38,33 @@ read_stopped asked s t k g = record {
   ends = read_fault g.given.0 g.given.1 g.given.2 g.given.3 refl;
 }
 
+-- the same call, of what is asked for
+pub call_along :
+    (p q : Option Asked) (s t k h : Told) (result : Status) → p ≡ q → TopCall p s t k h result → TopCall q s t k h result
+call_along p q s t k h result e call = subst (λ (x : Option Asked). TopCall x s t k h result) e call
+
+-- nothing was read
+none_read : (bytes : Option (List ℕ)) → Consumes bytes bytes []
+none_read None = tt
+none_read (Some xs) = refl
+
+-- memory ran out while the words were read
+pub words_starved : (asked : Option Asked) (s k : Told) → TopCall asked s s k k statuses.Memory
+words_starved asked s k = record {
+  got = [];
+  gone = none_read s.bytes;
+  reads = same s.faults;
+  writes = same k.faults;
+  ends = no_memory refl;
+}
+
 pub read_starved : (asked : Option Asked) (s t k : Told) → Gives asked s t (Err Memory) → TopCall asked s t k k statuses.Memory
 read_starved asked s t k g = record {
   got = g.got;
   gone = g.gone;
   reads = g.reads;
   writes = same k.faults;
-  ends = no_memory g.given.0 g.given.1 refl;
+  ends = no_memory refl;
 }
 
 pub answer_starved : (asked : Option Asked) (s t k : Told) (given : Given) → Gives asked s t (Ok given) → IsText given → TopCall asked s t k k statuses.Memory
@@ -55,7 +75,7 @@ answer_starved asked s t k (Text q text) g is = record {
   gone = g.gone;
   reads = g.reads;
   writes = same k.faults;
-  ends = no_memory q g.given.0 refl;
+  ends = no_memory refl;
 }
 
 along : (asked : Option Asked) (s t : Told) (got : List ℕ) (d e : Due) → d ≡ e → IsDue asked s t got (due_status e) (due_text e) → IsDue asked s t got (due_status d) (due_text d)

@@ -2,7 +2,10 @@ mod Accepting
 mod Answered
 mod CallLaws
 mod Calling
+mod Merged
 mod OneMemory
 mod Refused
+mod Runs
 mod Sections
 mod Telling
+mod Uncounted

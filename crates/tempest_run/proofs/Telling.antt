@@ -10,7 +10,7 @@ use Rattle.dsm_runs.specs.Worlds.{World, start}
 use Rattle.journal.specs.declared.finals.Final.{Final}
 use Rattle.journal.specs.declared.history.Break.{Break}
 use Rattle.journal.specs.declared.reports.Options.{Options}
-use Rattle.journal.specs.Finals.{finals_of}
+use Rattle.journal.specs.Finals.{counted_finals}
 use Rattle.journal.specs.Gathered.{words_of}
 use Rattle.journal.specs.History.{break_from, first_break}
 use Rattle.journal.specs.Reports.{report_of}
@@ -19,7 +19,7 @@ use Rattle.handler_code.specs.declared.code.Code.{Code}
 use Rattle.compiled_meaning.specs.Whole.{IsCode}
 use Rattle.code_text.specs.Texts.{text_of}
 use Rattle.tempest_run.specs.declared.answer.Answer.{Answer}
-use Rattle.tempest_run.specs.Answering.{TellsOfCode, report_answer, status_of}
+use Rattle.tempest_run.specs.Answering.{TellsOfCode, report_answer, status_of, told_answer}
 use Rattle.tempest_run.specs.declared.status.Status.{Status}
 use Rattle.tempest_run.specs.declared.status.Status.TheVariants.{Done}
 
@@ -46,16 +46,22 @@ from_start s t stride g j h e f settles = subst (λ u. Settles u stride 0 (start
 abbrev answer : Status → List ℕ → Answer
 answer status text = record { status = status; text = text }
 
--- what is made of the parts of a run is its report
+-- what is made of a journal, of ends and of words is their report
+pub told :
+    (s : Setup) (o : Options) (j : List Entry) (finals : List Final) (words : List ℕ) (b : Option Break) (status : Status)
+    (text : List ℕ) → b ≡ first_break s j → status ≡ status_of finals → text ≡ report_of s j finals words b o →
+    record { status = status; text = text } ≡ told_answer s j finals words o
+told s o j finals words b status text hb hs ht =
+    ap (λ x. answer x text) hs ∙ ap (λ x. answer (status_of finals) x) (ht ∙ ap (λ x. report_of s j finals words x o) hb)
+
+-- a report of a run's journal, ends and words is the run's
 pub tale :
-    (s : Setup) (o : Options) (j j1 : List Entry) (g : World) (f1 f2 : List Final) (w : List ℕ) (b : Option Break) (status : Status) (text : List ℕ) →
-    j1 ≡ j → f1 ≡ finals_of s g → f2 ≡ finals_of s g → w ≡ words_of s g → b ≡ first_break s j →
-    status ≡ status_of f2 → text ≡ report_of s j1 f1 w b o → record { status = status; text = text } ≡ report_answer s j g o
-tale s o j j1 g f1 f2 w b status text hj h1 h2 hw hb hs ht =
-    let whole : text ≡ report_of s j (finals_of s g) (words_of s g) (first_break s j) o =
-    ht ∙ ap (λ x. report_of s x f1 w b o) hj ∙ ap (λ x. report_of s j x w b o) h1 ∙ ap (λ x. report_of s j (finals_of s g) x b o) hw
-    ∙ ap (λ x. report_of s j (finals_of s g) (words_of s g) x o) hb in
-    ap (λ x. answer x text) (hs ∙ ap status_of h2) ∙ ap (λ x. answer (status_of (finals_of s g)) x) whole
+    (s : Setup) (o : Options) (j j1 : List Entry) (g : World) (ops records : ℕ → ℕ) (f : List Final) (w : List ℕ) (a : Answer) →
+    j1 ≡ j → f ≡ counted_finals s g ops records → w ≡ words_of s g → a ≡ told_answer s j1 f w o →
+    a ≡ report_answer s j g ops records o
+tale s o j j1 g ops records f w a hj hf hw ha =
+    ha ∙ ap (λ x. told_answer s x f w o) hj ∙ ap (λ x. told_answer s j x w o) hf
+    ∙ ap (λ x. told_answer s j (counted_finals s g ops records) x o) hw
 
 -- the first break, on a flat machine at its start
 pub broken_is :

@@ -18,17 +18,22 @@ use Rattle.compiled_meaning.specs.Whole.{IsCode}
 use Rattle.code_text.specs.Texts.{text_of}
 use Rattle.dsm_runs.specs.declared.outcome.Outcome.{Outcome}
 use Rattle.dsm_runs.specs.declared.outcome.Outcome.TheVariants as outcomes
+use Rattle.dsm_runs.specs.Merges.{IsSorted}
 use Rattle.dsm_runs.specs.Schedules.{Settles}
 use Rattle.dsm_runs.specs.Setups.{Setup}
 use Rattle.dsm_runs.specs.Worlds.{IsQuiet, Runs, World, start}
 use Rattle.journal.specs.declared.finals.Final.{Final}
 use Rattle.journal.specs.declared.reports.Options.{Options}
-use Rattle.journal.specs.Finals.{finals_of}
+use Rattle.journal.specs.Finals.{counted_finals, finals_of}
 use Rattle.journal.specs.Gathered.{words_of}
 use Rattle.journal.specs.History.{first_break}
 use Rattle.journal.specs.Laws.{History}
 use Rattle.journal.specs.Reports.{report_of}
 use Rattle.printed_text.specs.Lines.{line}
+use Rattle.node_meaning.specs.Tallies.{Tally}
+use Rattle.counted_runs.specs.Counted.{HasCounts}
+use Rattle.sample_runs.specs.Samples.{sample_setup}
+use Rattle.sample_runs.specs.Summaries.{summary_text}
 use Rattle.tempest_run.specs.declared.answer.Answer.{Answer}
 use Rattle.tempest_run.specs.declared.status.Status.{Status}
 use Rattle.tempest_run.specs.declared.status.Status.TheVariants as statuses
@@ -46,6 +51,10 @@ pub record IsQuietRun (s : Setup) (j : List Entry) (g : World) : Type 0 where
   pub quiet : IsQuiet s g
   pub history : History s j g (first_break s j)
 
+-- a journal of a run
+abbrev pub IsRun : Setup → List Entry → Type 0
+IsRun s j = (g : World) × Runs s (start s) j g
+
 -- the quiet run of the schedule of this stride
 pub record IsSerialRun (s : Setup) (stride : ℕ) (j : List Entry) (g : World) : Type 0 where
   pub schedule : Settles s stride 0 (start s) j g
@@ -62,17 +71,54 @@ has_halted (outcomes.Failed how) = false
 abbrev pub status_of : List Final → Status
 status_of finals = if list_all (λ f. has_halted f.outcome) finals then statuses.Done else statuses.Unfinished
 
--- the report of a run that ends in g
-abbrev pub report_answer : Setup → List Entry → World → Options → Answer
-report_answer s j g o = record { status = status_of (finals_of s g); text = report_of s j (finals_of s g) (words_of s g) (first_break s j) o }
+-- the report of a run with this journal, whose nodes ended so and left these words
+abbrev pub told_answer : Setup → List Entry → List Final → List ℕ → Options → Answer
+told_answer s j finals words o = record { status = status_of finals; text = report_of s j finals words (first_break s j) o }
 
--- the answer tells of the serial run of this stride; under the shipped protocol one memory explains it
+-- the report of a run that ends in g, whose handlers made these ops and saved these records, by node
+abbrev pub report_answer : Setup → List Entry → World → (ℕ → ℕ) → (ℕ → ℕ) → Options → Answer
+report_answer s j g ops records o = told_answer s j (counted_finals s g ops records) (words_of s g) o
+
+-- The answer tells of the serial run of this stride; under the shipped protocol one memory explains it. Where counts are
+-- asked for, they are those of the compiled handlers beside the run.
 pub record TellsOfRun (s : Setup) (stride : ℕ) (o : Options) (a : Answer) : Type 0 where
   pub journal : List Entry
   pub state : World
+  pub counts : ℕ → Tally
   pub run : IsSerialRun s stride journal state
   pub one_memory : IsStache s.protocol → OneMemory s journal state
-  pub tells : a ≡ report_answer s journal state o
+  pub counted : o.counts ≡ true → HasCounts s journal state counts
+  pub tells : a ≡ report_answer s journal state (λ i. (counts i).ops) (λ i. (counts i).records) o
+
+-- ---- runs on threads
+
+-- The answer tells of a run on threads, whichever it was: a quiet run, whose journal is by stamp and then by node. The rest is
+-- as of a serial run.
+pub record TellsOfThreads (s : Setup) (o : Options) (a : Answer) : Type 0 where
+  pub journal : List Entry
+  pub state : World
+  pub counts : ℕ → Tally
+  pub run : IsQuietRun s journal state
+  pub sorted : IsSorted journal
+  pub one_memory : IsStache s.protocol → OneMemory s journal state
+  pub counted : o.counts ≡ true → HasCounts s journal state counts
+  pub tells : a ≡ report_answer s journal state (λ i. (counts i).ops) (λ i. (counts i).records) o
+
+-- the summary of a run of sample k that ends in g, however its nodes ended
+abbrev pub sample_answer : ℕ → List Entry → World → Answer
+sample_answer k j g = record {
+  status = statuses.Done;
+  text = summary_text k j (finals_of (sample_setup k) g) (words_of (sample_setup k) g) (first_break (sample_setup k) j);
+}
+
+-- the answer tells of a run of sample k on threads, whichever it was, and one memory explains it
+pub record TellsOfSample (k : ℕ) (a : Answer) : Type 0 where
+  pub journal : List Entry
+  pub state : World
+  pub run : IsQuietRun (sample_setup k) journal state
+  pub sorted : IsSorted journal
+  pub one_memory : OneMemory (sample_setup k) journal state
+  pub tells : a ≡ sample_answer k journal state
 
 -- ---- refusals, and answers about a protocol
 
@@ -127,21 +173,33 @@ pub record TellsOfCode (p : Protocol) (a : Answer) : Type 0 where
 
 -- ---- the answer
 
--- a report has its journal where it is asked for, and no counts
+-- a report has its journal and its counts where they are asked for
 abbrev pub options_of : Asked → Options
-options_of asked = record { journal = asked.journal; counts = false }
+options_of asked = record { journal = asked.journal; counts = asked.counts }
 
 -- the table of the shipped protocol
 abbrev pub table_answer : Answer
 table_answer = record { status = statuses.Done; text = table_text }
 
--- the answer to a command where a text sets this up
+-- the answer to a command that reads an input, where a text sets this up
 abbrev pub Answers : Command → Options → Setup → Answer → Type 0
+Answers commands.Run o s a = TellsOfThreads s o a
 Answers (commands.Serial stride) o s a = TellsOfRun s stride o a
 Answers commands.Check o s a = a ≡ check_answer s.protocol
 Answers commands.Code o s a = TellsOfCode s.protocol a
 Answers commands.Show o s a = a ≡ show_answer s.protocol
-Answers commands.Table o s a = a ≡ table_answer
+Answers commands.Table o s a = ⊥
+Answers (commands.Sample k) o s a = ⊥
+
+-- the answer to a command that reads none
+abbrev pub AnswersAlone : Command → Answer → Type 0
+AnswersAlone commands.Table a = a ≡ table_answer
+AnswersAlone (commands.Sample k) a = TellsOfSample k a
+AnswersAlone commands.Run a = ⊥
+AnswersAlone (commands.Serial stride) a = ⊥
+AnswersAlone commands.Check a = ⊥
+AnswersAlone commands.Code a = ⊥
+AnswersAlone commands.Show a = ⊥
 
 -- the answer about what a text sets up, or its refusal
 abbrev pub AnswersIn : Command → Options → Result Setup InputError → Answer → Type 0
@@ -151,18 +209,31 @@ AnswersIn command o (Err errors.Memory) a = ⊥
 
 -- whether a command reads an input
 abbrev pub reads_input : Command → Bool
+reads_input commands.Run = true
+reads_input (commands.Serial stride) = true
 reads_input commands.Check = true
 reads_input commands.Code = true
 reads_input commands.Show = true
 reads_input commands.Table = false
-reads_input (commands.Serial stride) = true
+reads_input (commands.Sample k) = false
+
+-- whether a command makes its run on threads
+abbrev pub is_threaded : Command → Bool
+is_threaded commands.Run = true
+is_threaded (commands.Serial stride) = false
+is_threaded commands.Check = false
+is_threaded commands.Code = false
+is_threaded commands.Show = false
+is_threaded commands.Table = false
+is_threaded (commands.Sample k) = true
 
 -- about its input, or without one
 abbrev pub IsAnswerIf : Bool → Command → Options → List ℕ → Answer → Type 0
 IsAnswerIf true command o text a = AnswersIn command o (input_of text) a
-IsAnswerIf false command o text a = a ≡ table_answer
+IsAnswerIf false command o text a = AnswersAlone command a
 
--- The answer to a text, which is the table where the command reads none. A run on the model is the same run.
+-- The answer to a text, which a command that reads none does not look at. A serial run on the model is the same run as one on
+-- nodes with compiled handlers.
 abbrev pub IsAnswer : Asked → List ℕ → Answer → Type 0
 IsAnswer asked text a = IsAnswerIf (reads_input asked.command) asked.command (options_of asked) text a
 

@@ -34,11 +34,11 @@ StatusesSay =
     (asked : Option Asked) (source source' sink sink' : Told) (result : Status) → (call : TopCall asked source source' sink sink' result)
     → Says asked source source' sink sink' call.got result
 
--- Where no end failed, words that are no command are refused.
+-- Where no end failed, words that are no command are refused, unless memory ran out.
 abbrev pub WordsAreRefused : Type 0
 WordsAreRefused =
     (source source' sink sink' : Told) (result : Status) → TopCall None source source' sink sink' result
-    → ¬ Rose sink.faults sink'.faults → result ≡ statuses.Usage
+    → ¬ Rose sink.faults sink'.faults → (result ≡ statuses.Memory) ⊎ (result ≡ statuses.Usage)
 
 -- Where no end failed, an input that is too long is refused, unless memory ran out.
 abbrev pub LengthIsRefused : Type 0

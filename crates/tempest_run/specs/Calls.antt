@@ -14,7 +14,7 @@ use Rattle.tempest_run.specs.declared.given.Stopped.{Stopped}
 use Rattle.tempest_run.specs.declared.given.Stopped.TheVariants as stops
 use Rattle.tempest_run.specs.declared.status.Status.{Status}
 use Rattle.tempest_run.specs.declared.status.Status.TheVariants as statuses
-use Rattle.tempest_run.specs.Answering.{IsAnswer, reads_input}
+use Rattle.tempest_run.specs.Answering.{IsAnswer, is_threaded, reads_input}
 
 -- what an end tells of its bytes, and how often it failed
 abbrev pub told : Option (List ℕ) → ℕ → Told
@@ -59,8 +59,8 @@ pub data Ends (asked : Option Asked) (source source' sink sink' : Told) (got : L
   -- the source failed behind as many bytes as an input may have, or fewer, and the sink is as it was
   read_fault : (q : Asked) → asked ≡ Some q → length got ≤ most_input → Rose source.faults source'.faults → sink' ≡ sink
       → Ends asked source source' sink sink' got statuses.ReadFault
-  -- memory ran out, and the sink is as it was
-  no_memory : (q : Asked) → asked ≡ Some q → sink' ≡ sink → Ends asked source source' sink sink' got statuses.Memory
+  -- memory ran out, perhaps before it was known what the words ask for, and the sink is as it was
+  no_memory : sink' ≡ sink → Ends asked source source' sink sink' got statuses.Memory
 
 -- A call with words that ask for this, between a source and a sink as they were and as it leaves them.
 pub record TopCall (asked : Option Asked) (source source' sink sink' : Told) (result : Status) : Type 0 where
@@ -81,7 +81,7 @@ IsGiven asked source source' got (Ok givens.TooLong) = (q : Asked) × (asked ≡
 IsGiven asked source source' got (Ok (givens.Text q text)) = (asked ≡ Some q) × (text ≡ got) × IsInput (reads_input q.command) source source' got
 IsGiven asked source source' got (Err stops.ReadFault) =
     (q : Asked) × (asked ≡ Some q) × (length got ≤ most_input) × Rose source.faults source'.faults
-IsGiven asked source source' got (Err stops.Memory) = (q : Asked) × (asked ≡ Some q)
+IsGiven asked source source' got (Err stops.Memory) = Unit {0}
 
 pub record Gives (asked : Option Asked) (source source' : Told) (result : Result Given Stopped) : Type 0 where
   pub got : List ℕ
@@ -94,6 +94,12 @@ abbrev pub IsShort : Given → Type 0
 IsShort givens.NoCommand = Unit {0}
 IsShort givens.TooLong = Unit {0}
 IsShort (givens.Text q text) = length text ≤ most_input
+
+-- the run that is asked for is not made on threads
+abbrev pub IsPlain : Given → Type 0
+IsPlain givens.NoCommand = Unit {0}
+IsPlain givens.TooLong = Unit {0}
+IsPlain (givens.Text q text) = is_threaded q.command ≡ false
 
 -- memory is wanted for the answer to a text alone
 abbrev pub IsText : Given → Type 0

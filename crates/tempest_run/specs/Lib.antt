@@ -1,4 +1,5 @@
 pub mod Answering
+pub mod Asking
 pub mod CallLaws
 pub mod Calls
 pub mod Inputs

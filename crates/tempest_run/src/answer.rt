@@ -1,6 +1,8 @@
-ghost use Rattle.std.specs.Prelude.{◌≡◌, ◌+◌, ◌^◌, ◌<◌, length, IfOk};
+ghost use Rattle.std.specs.Prelude.{◌≡◌, ◌+◌, ◌^◌, ◌<◌, true, false, length, IfOk};
 ghost use Rattle.std.specs.List.{list_all};
-ghost use Rattle.tempest_run.specs.Answering.{Answers, IsAnswer, TellsOfCode, TellsOfRun, has_halted, options_of, refusal, show_answer, status_of, table_answer, why_text};
+ghost use Rattle.dsm_runs.specs.Setups.{IsSetup};
+ghost use Rattle.journal.specs.History.{first_break};
+ghost use Rattle.tempest_run.specs.Answering.{Answers, AnswersAlone, IsAnswer, IsRun, TellsOfCode, TellsOfRun, has_halted, is_threaded, options_of, reads_input, refusal, show_answer, status_of, table_answer, told_answer, why_text};
 
 use crate::accepted::check_answer;
 use crate::given::reads_input;
@@ -9,16 +11,18 @@ use crate::status::Status;
 use code_text::code_text;
 use dsm_model::{Global, settle};
 use dsm_runs::{Outcome, Setup, runs_are_short, schedules_are_one_run};
-use journal::{Final, Options, finals_of, first_break, history_is_told, report, words_of};
+use journal::{Break, Final, Options, finals_of, first_break, history_is_told, report, words_of};
 use mini_asm::Flat;
 use stache_cases::table;
 use std::alloc;
+use still_meaning::what_is_read_is_the_states;
+use still_nodes::Still;
 use suspend_split::split;
 use teapot_print::print;
 use teapot_tree::Checked;
 use tempest_input::{InputError, Why};
 use tempest_words::{Asked, Command};
-use tw_base::{Listed, Memory};
+use tw_base::{Entry, Listed, Memory};
 
 /// What is written for a text, and with which status.
 #[derive(Debug, Drop)]
@@ -56,7 +60,8 @@ fn why_text(why: Why) -> &'static str
     }
 }
 
-fn refusal(alloc: alloc::Global, number: u32, why: Why) -> Result<Answer, Memory>
+/// The line that refuses a text.
+pub fn refusal(alloc: alloc::Global, number: u32, why: Why) -> Result<Answer, Memory>
     ensures { IfOk result (λ a. a ≡ refusal number why) }
 {
     let reason = why_text(why);
@@ -89,8 +94,44 @@ fn status_of(finals: &[Final]) -> Status
     }
 }
 
-/// The report of the serial run of a setup.
-fn report_answer(
+/// The first break of a run's history, which is sought beside a flat machine.
+pub fn break_of(
+    alloc: alloc::Global,
+    setup: &Setup,
+    journal: &[Entry],
+) -> Result<Option<Break>, Memory>
+    requires { IsRun setup.now journal.now }
+    ensures value { IfOk result (λ b. b ≡ first_break setup.now journal.now) }
+    ensures valid { IsSetup setup.now }
+{
+    runs_are_short();
+    let mut flat = Flat::new(alloc, setup.shape(), setup.init(), setup.programs())?;
+    Ok(first_break(&mut flat, journal))
+}
+
+/// The report of a run: its journal, how its nodes ended, and the words that they left.
+pub fn told_answer(
+    alloc: alloc::Global,
+    setup: &Setup,
+    journal: &[Entry],
+    finals: &[Final],
+    words: &[u64],
+    options: Options,
+) -> Result<Answer, Memory>
+    requires { IsRun setup.now journal.now }
+    ensures value { IfOk result (λ a. a ≡ told_answer setup.now journal.now finals.now words.now options) }
+    ensures valid { IsSetup setup.now }
+{
+    let broken = break_of(alloc, setup, journal)?;
+    let text = report(alloc, setup, journal, finals, words, broken, options)?;
+    Ok(Answer {
+        status: status_of(finals),
+        text: Listed::of(text),
+    })
+}
+
+// The report of the serial run of a setup, on nodes with compiled handlers.
+fn nodes_answer(
     alloc: alloc::Global,
     setup: &Setup,
     stride: u32,
@@ -99,27 +140,64 @@ fn report_answer(
     ensures { IfOk result (λ a. TellsOfRun setup.now stride options a) }
 {
     schedules_are_one_run();
-    runs_are_short();
+    history_is_told();
+    what_is_read_is_the_states();
+    let code = split(alloc, setup.protocol())?;
+    let mut still = Still::new(alloc, setup, &code)?;
+    still.settle(alloc, stride)?;
+    let finals = finals_of(alloc, &still)?;
+    let words = words_of(alloc, &still)?;
+    told_answer(
+        alloc,
+        setup,
+        still.taken(),
+        finals.items(),
+        words.items(),
+        options,
+    )
+}
+
+// The same report, of the run on the model, which counts nothing.
+fn model_answer(
+    alloc: alloc::Global,
+    setup: &Setup,
+    stride: u32,
+    options: Options,
+) -> Result<Answer, Memory>
+    requires { options.counts ≡ false }
+    ensures { IfOk result (λ a. TellsOfRun setup.now stride options a) }
+{
+    schedules_are_one_run();
     history_is_told();
     let mut g = Global::new(alloc, setup)?;
     let entries = settle(alloc, &mut g, stride)?;
     let finals = finals_of(alloc, &g)?;
     let words = words_of(alloc, &g)?;
-    let mut flat = Flat::new(alloc, setup.shape(), setup.init(), setup.programs())?;
-    let broken = first_break(&mut flat, entries.items());
-    let text = report(
+    told_answer(
         alloc,
         setup,
         entries.items(),
         finals.items(),
         words.items(),
-        broken,
         options,
-    )?;
-    Ok(Answer {
-        status: status_of(finals.items()),
-        text: Listed::of(text),
-    })
+    )
+}
+
+// The report of the serial run of a setup: on the model where the words ask for it, which then ask for no counts.
+fn report_answer(
+    alloc: alloc::Global,
+    setup: &Setup,
+    stride: u32,
+    asked: Asked,
+) -> Result<Answer, Memory>
+    ensures { IfOk result (λ a. TellsOfRun setup.now stride (options_of asked) a) }
+{
+    let options = options_of(asked);
+    if asked.meaning && !asked.counts {
+        model_answer(alloc, setup, stride, options)
+    } else {
+        nodes_answer(alloc, setup, stride, options)
+    }
 }
 
 // The canonical text of a protocol.
@@ -154,35 +232,52 @@ fn table_answer(alloc: alloc::Global) -> Result<Answer, Memory>
     })
 }
 
-fn options_of(asked: Asked) -> Options
+/// What a report is to have.
+pub fn options_of(asked: Asked) -> Options
     ensures { result ≡ options_of asked }
 {
     Options {
         journal: asked.journal,
-        counts: false,
+        counts: asked.counts,
     }
 }
 
 // The answer where a text sets this up.
 fn answer_about(alloc: alloc::Global, asked: Asked, setup: &Setup) -> Result<Answer, Memory>
+    requires reads { reads_input asked.command ≡ true }
+    requires plain { is_threaded asked.command ≡ false }
     ensures { IfOk result (λ a. Answers asked.command (options_of asked) setup.now a) }
 {
     match asked.command {
-        Command::Serial(stride) => report_answer(alloc, setup, stride, options_of(asked)),
+        Command::Serial(stride) => report_answer(alloc, setup, stride, asked),
         Command::Check => check_answer(alloc, setup.protocol()),
         Command::Code => code_answer(alloc, setup.protocol()),
         Command::Show => show_answer(alloc, setup.protocol()),
-        Command::Table => table_answer(alloc),
+        Command::Run | Command::Table | Command::Sample(_) => unreachable!(),
     }
 }
 
-/// The answer to a text, of which a command that reads none does not speak.
+// The answer to a command that reads no input.
+fn answer_alone(alloc: alloc::Global, command: Command) -> Result<Answer, Memory>
+    requires reads { reads_input command ≡ false }
+    requires plain { is_threaded command ≡ false }
+    ensures { IfOk result (λ a. AnswersAlone command a) }
+{
+    match command {
+        Command::Table => table_answer(alloc),
+        Command::Run | Command::Serial(_) => unreachable!(),
+        Command::Check | Command::Code | Command::Show | Command::Sample(_) => unreachable!(),
+    }
+}
+
+/// The answer to a text, which a command that reads none does not look at.
 pub fn answer_to(alloc: alloc::Global, asked: Asked, text: &[u8]) -> Result<Answer, Memory>
-    requires { length text.now + 2 < 2 ^ 32 }
+    requires short { length text.now + 2 < 2 ^ 32 }
+    requires plain { is_threaded asked.command ≡ false }
     ensures { IfOk result (λ a. IsAnswer asked text.now a) }
 {
     if !reads_input(asked.command) {
-        return table_answer(alloc);
+        return answer_alone(alloc, asked.command);
     }
     match read_input(alloc, text) {
         Ok(setup) => answer_about(alloc, asked, &setup),

@@ -1,5 +1,5 @@
 ghost use Rattle.std.specs.Prelude.{◌≡◌, IfOk, OnErr};
-ghost use Rattle.tempest_run.specs.Calls.{IsDueFor, IsShort, IsText, Writes, due_status, due_text, told};
+ghost use Rattle.tempest_run.specs.Calls.{IsDueFor, IsPlain, IsShort, IsText, Writes, due_status, due_text, told};
 
 use crate::answer::{Answer, answer_to};
 use crate::given::Given;
@@ -40,7 +40,8 @@ impl Due {
 
 /// What is due for what was given.
 pub fn answer_given(alloc: Global, given: &Given) -> Result<Due, Memory>
-    requires { IsShort given.now }
+    requires short { IsShort given.now }
+    requires plain { IsPlain given.now }
     ensures value { IfOk result (λ d. IsDueFor given.now d) }
     ensures wants { OnErr result (IsText given.now) }
 {

@@ -1,21 +1,19 @@
-ghost use Rattle.std.specs.Prelude.{◌≡◌, map};
-ghost use Rattle.std.specs.String.{string_bytes};
-ghost use Rattle.tempest_words.specs.Words.{asked};
+ghost use Rattle.std.specs.Prelude.{◌≡◌};
 ghost use Rattle.tempest_run.specs.Answering.{reads_input};
 ghost use Rattle.tempest_run.specs.Calls.{Gives, told};
 
 use std::alloc::Global;
-use tempest_words::{Asked, Command, asked};
+use tempest_words::{Asked, Command};
 use tw_base::Listed;
 use tw_io::{ReadError, Source, read_all};
 
 /// How many bytes an input may have.
 const MAX_INPUT: u32 = 1_048_576;
 
-/// What the words and the source gave.
+/// What was asked for, and what the source gave.
 #[derive(Debug, Drop)]
 pub enum Given {
-    /// The words are no command.
+    /// Nothing: the words are no command.
     NoCommand,
     /// The input has more bytes than it may have.
     TooLong,
@@ -35,20 +33,21 @@ pub fn reads_input(command: Command) -> bool
     ensures { result ≡ reads_input command }
 {
     match command {
-        Command::Check | Command::Code | Command::Show | Command::Serial(_) => true,
-        Command::Table => false,
+        Command::Run | Command::Serial(_) => true,
+        Command::Check | Command::Code | Command::Show => true,
+        Command::Table | Command::Sample(_) => false,
     }
 }
 
-/// Reads the input of what the words ask for, if they ask for something.
+/// Reads the input of what is asked for, if something is.
 pub fn read_given<S: Source>(
     alloc: Global,
-    words: &[String],
+    asked: Option<Asked>,
     source: &mut S,
 ) -> Result<Given, Stopped>
-    ensures { Gives (asked (map string_bytes words.now)) (told (S.left source.old) (S.faults source.old)) (told (S.left source.new) (S.faults source.new)) result }
+    ensures { Gives asked (told (S.left source.old) (S.faults source.old)) (told (S.left source.new) (S.faults source.new)) result }
 {
-    let Some(asked) = asked(words) else {
+    let Some(asked) = asked else {
         return Ok(Given::NoCommand);
     };
     if !reads_input(asked.command) {

@@ -3,6 +3,7 @@ ghost use Rattle.tempest_run.specs.Laws.{AnswerIsOne};
 ghost use Rattle.tempest_run.specs.Refusals.{RefusalIsOfAKind, RefusalIsOne, TextIsNeverBoth, TextIsNoMemory, TextIsValidOrRefused};
 
 use compiled_meaning::one_code;
+use counted_runs::counts_are_one;
 use dsm_runs::schedules_are_one_run;
 use stache_protocol::shipped_text_is_stache;
 use teapot_parse::{
@@ -16,6 +17,7 @@ pub fn answer_is_one()
     ensures { AnswerIsOne }
 {
     schedules_are_one_run();
+    counts_are_one();
     one_code();
 }
 

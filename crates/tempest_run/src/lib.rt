@@ -4,11 +4,13 @@
 
 mod accepted;
 mod answer;
+mod asking;
 mod due;
 mod given;
 mod input;
 mod laws;
 mod status;
+mod threads;
 mod top;
 
 pub use dsm_runs::Setup;
@@ -18,4 +20,4 @@ pub use laws::{
 };
 pub use status::Status;
 pub use tempest_input::{InputError, Why};
-pub use top::tempest_plain;
+pub use top::{tempest, tempest_plain};

@@ -1,7 +1,7 @@
 //! Cases, parted by `%%`: an input, and behind each `=>` the words that ask of it, the status and the report. A line such as
 //! `<WALK>` stands for the sample protocol of that name.
 
-use crate::asking::expect;
+use crate::asking::{expect, expect_same};
 use std::alloc::Global;
 use std::process::Abort;
 use std::test::Fail;
@@ -64,6 +64,27 @@ fn expect_case(rt: &impl Abort, alloc: Global, case: &str) -> Result<(), Fail> {
 pub fn expect_all(rt: &impl Abort, alloc: Global, cases: &str) -> Result<(), Fail> {
     for case in cases.split("%%\n") {
         expect_case(rt, alloc, case)?;
+    }
+    Ok(())
+}
+
+const STRIDES: [u32; 7] = [0, 1, 2, 3, 7, 1000, 4_294_967_295];
+
+// Runs of one input, each on nodes with compiled handlers and on the model.
+fn expect_meaning(rt: &impl Abort, alloc: Global, text: &str) -> Result<(), Fail> {
+    for stride in STRIDES {
+        let asked = format!(in alloc; "serial {stride} --journal")?;
+        expect_same(rt, alloc, asked.as_str(), "--meaning", text)?;
+    }
+    Ok(())
+}
+
+/// About the input of each case nodes with compiled handlers and the model write the same.
+pub fn expect_meanings(rt: &impl Abort, alloc: Global, cases: &str) -> Result<(), Fail> {
+    for case in cases.split("%%\n") {
+        let (input, _questions) = case.split_once("=> ").ok_or("no question")?;
+        let text = whole(alloc, input)?;
+        expect_meaning(rt, alloc, text.as_str())?;
     }
     Ok(())
 }

@@ -1,4 +1,4 @@
-use crate::cases::expect_all;
+use crate::cases::{expect_all, expect_meanings};
 use std::test::Fail;
 
 // Runs with every event.
@@ -203,4 +203,9 @@ end
 #[test]
 fn journals_are_reported(rt: HostRuntime) -> Result<(), Fail> {
     expect_all(&rt, rt.alloc(), JOURNALS)
+}
+
+#[test]
+fn journals_of_nodes_are_those_of_the_model(rt: HostRuntime) -> Result<(), Fail> {
+    expect_meanings(&rt, rt.alloc(), JOURNALS)
 }

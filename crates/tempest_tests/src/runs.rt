@@ -1,4 +1,4 @@
-use crate::cases::{expect_all, expect_section};
+use crate::cases::{expect_all, expect_meanings, expect_section};
 use std::test::Fail;
 
 // Runs, the code of a protocol, and protocols of profile 2.
@@ -539,4 +539,9 @@ fn runs_are_reported(rt: HostRuntime) -> Result<(), Fail> {
 #[test]
 fn section_runs_as_shipped(rt: HostRuntime) -> Result<(), Fail> {
     expect_section(&rt, rt.alloc(), RUNS)
+}
+
+#[test]
+fn runs_on_nodes_are_those_of_the_model(rt: HostRuntime) -> Result<(), Fail> {
+    expect_meanings(&rt, rt.alloc(), RUNS)
 }

@@ -531,7 +531,7 @@ fn protocols_are_checked(rt: HostRuntime) -> Result<(), Fail> {
     Ok(())
 }
 
-const NO_COMMANDS: [&str; 19] = [
+const NO_COMMANDS: [&str; 22] = [
     "",
     "serial",
     "serial -1",
@@ -547,7 +547,10 @@ const NO_COMMANDS: [&str; 19] = [
     "show check",
     "--journal show",
     "serial 0 --journal --journal",
-    "serial 0 --counts",
+    "serial 0 --counts --counts",
+    "serial 0 --counts --meaning",
+    "serial 0 --meaning --counts",
+    "check --counts",
     "check --meaning",
     "serial --batch 1 0",
     "Show",
