@@ -1,0 +1,5 @@
+use Rattle.tw_wire_tests.specs.Tied.{AreTied}
+use Rattle.tw_wire_tests.proofs.rounds.push_last.Given as goal
+
+abbrev pub invariant-loop-k : goal.invariant-loop-k
+invariant-loop-k g l = AreTied l.wires l.ends.items
