@@ -1,32 +1,36 @@
-ghost use Rattle.std.specs.Prelude.{◌≡◌, [], ◌∷◌, ◌++◌, ◌<◌, ◌≤◌, length, IfOk, IsOk};
+ghost use Rattle.std.specs.Prelude.{◌≡◌, [], IfOk, IsOk};
 
+use crate::running::Running;
+use crate::unsent::Unsent;
 use std::alloc::Global;
 use std::marker::Model;
-use tw_base::{Data, Memory, Message, Value};
+use tw_base::{Memory, Message};
 
-/// Room for 288 messages, as many as a handler sends at most.
+/// What runs of handlers need: room for 288 messages, as many as a handler sends at most, and the run itself, which stays
+/// where it is from message to message.
 #[derive(Drop)]
 pub struct Around {
-    sends: Vec<Message>,
+    pub(crate) unsent: Unsent,
+    pub(crate) run: Running,
 }
 
 impl Model for Around {
-    ghost use Rattle.std.specs.Prelude.{vec_capacity, ◌≤◌};
     ghost use Rattle.handler_vm.specs.Sending.{Sends};
 
     ghost Value = { Sends };
 
-    ghost view = { λ a. record { sent = a.sends.items; room = vec_capacity a.sends } };
-
-    ghost invariant = { λ a. 288 ≤ vec_capacity a.sends };
+    ghost view = { λ a. a.unsent };
 }
 
 impl Around {
     pub fn new(alloc: Global) -> Result<Around, Memory>
         ensures { IfOk result (λ a. a.sent ≡ []) }
     {
-        let sends = Vec::with_capacity(alloc, 288)?;
-        Ok(Around { sends })
+        let unsent = Unsent::new(alloc)?;
+        Ok(Around {
+            unsent,
+            run: Running::idle(),
+        })
     }
 
     /// Forgets the messages that were sent. It takes no memory, and cannot fail.
@@ -34,7 +38,7 @@ impl Around {
         ensures ok { IsOk result }
         ensures cleared { self.new ≡ record { sent = []; room = self.old.room } }
     {
-        self.clear();
+        self.unsent.clear();
         Ok(())
     }
 
@@ -42,22 +46,6 @@ impl Around {
     pub fn sends(&self) -> &[Message]
         ensures { result.now ≡ self.now.sent }
     {
-        self.sends.as_slice()
-    }
-
-    pub(crate) fn clear(&mut self)
-        ensures cleared { self.new ≡ record { sent = []; room = self.old.room } }
-        ensures roomy { 288 ≤ self.new.room }
-    {
-        self.sends.clear();
-    }
-
-    pub(crate) fn push(&mut self, m: Message)
-        requires { length self.old.sent < self.old.room }
-        ensures { self.new ≡ record { sent = self.old.sent ++ m ∷ []; room = self.old.room } }
-    {
-        let _value: Option<Value> = None;
-        let _data: Option<Data> = None;
-        self.sends.push_reserved(m);
+        self.unsent.messages()
     }
 }

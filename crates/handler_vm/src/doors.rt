@@ -1,4 +1,4 @@
-ghost use Rattle.std.specs.Prelude.{◌≡◌, ◌∷◌, ◌++◌, ◌+◌, ◌*◌, ◌<◌, [], Some, IfOk, IsSome, OnErr, OnOk, length, slice_get, true};
+ghost use Rattle.std.specs.Prelude.{◌≡◌, ◌∷◌, ◌++◌, ◌+◌, ◌*◌, ◌<◌, [], Some, IfOk, IsSome, OnOk, length, slice_get, true};
 ghost use Rattle.teapot_meaning.specs.Fits.{is_known};
 ghost use Rattle.handler_code.specs.Doors.{door_for, locals_of};
 ghost use Rattle.handler_vm.specs.Order.{IsInOrder};

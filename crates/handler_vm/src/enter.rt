@@ -1,4 +1,4 @@
-ghost use Rattle.std.specs.Prelude.{◌≡◌, ◌∷◌, ◌++◌, ◌+◌, ◌-◌, ◌≤◌, length, replicate};
+ghost use Rattle.std.specs.Prelude.{◌≡◌, ◌∷◌, ◌++◌, ◌+◌, ◌≤◌, length};
 ghost use Rattle.tw_base.specs.declared.value.Value.TheVariants.{Int, Node};
 ghost use Rattle.handler_code.specs.Doors.{args_taken, filled, zeros_of};
 
@@ -58,15 +58,15 @@ impl Slots {
     }
 }
 
-/// The slots with which a message enters the code.
-pub(crate) fn slots_at(entry: &Entry, args: &Args, m: &Message) -> Slots
+/// The slots become those with which a message enters the code.
+pub(crate) fn enter_slots(slots: &mut Slots, entry: &Entry, args: &Args, m: &Message)
     requires few { entry.now.door.now.slots ≤ 21 }
     requires locals { length entry.now.handler.now.locals ≤ 8 }
     requires args { length args.now ≤ 4 }
-    ensures { result ≡ filled entry.now.door.now.slots
+    ensures { slots.new ≡ filled entry.now.door.now.slots
         (Node m.now.from ∷ (args.now ++ (args_taken entry.now.door.now.on m.now ++ zeros_of entry.now.handler.now.locals))) }
 {
-    let mut slots = Slots::new();
+    slots.clear();
     slots.push(Value::Node(m.from));
     let places = args.places();
     let own = &places[..];
@@ -74,5 +74,4 @@ pub(crate) fn slots_at(entry: &Entry, args: &Args, m: &Message) -> Slots
     slots.take_args(entry.door, m);
     slots.zeros(entry.handler.locals.items());
     slots.fill(entry.door.slots);
-    slots
 }

@@ -13,9 +13,10 @@ ghost use Rattle.handler_vm.specs.Tables.{IsTableOf};
 use crate::around::Around;
 use crate::cell::{Cell, Ran};
 use crate::doors::{Doors, Entry, entry_for};
-use crate::enter::slots_at;
+use crate::enter::enter_slots;
 use crate::running::Running;
-use crate::values::{Args, Operands};
+use crate::unsent::Unsent;
+use crate::values::Args;
 use crate::work::state_arity;
 use block_tags::Blocks;
 use cont_store::Conts;
@@ -32,8 +33,9 @@ fn copied(infos: &[Value; 8]) -> [Value; 8]
     places
 }
 
-/// The run with which a message enters the code at a door.
+/// A message enters the code at a door: of the run before it nothing is left.
 fn enter(
+    run: &mut Running,
     p: &Checked,
     entry: &Entry,
     cell: &Cell,
@@ -41,36 +43,34 @@ fn enter(
     me: NodeId,
     home: NodeId,
     m: &Message,
-) -> Running
+)
     requires few { entry.now.door.now.slots ≤ 21 }
     requires locals { entry.now.handler.now.locals ≡ locals_of p.now entry.now.door.now }
     requires declared { cell.now.state < length p.now.states }
     requires block { m.now.block < blocks.now.shape.blocks }
-    ensures run { result ≡ begun p.now entry.now.door.now me home (tag_of blocks.now m.now.block) (block_words blocks.now m.now.block) cell.now m.now }
+    ensures run { run.new ≡ begun p.now entry.now.door.now me home (tag_of blocks.now m.now.block) (block_words blocks.now m.now.block) cell.now m.now }
     ensures words { length (block_words blocks.now m.now.block) ≡ blocks.now.shape.words }
     ensures places { length cell.now.args ≡ 4 }
 {
     let args = Args::first(&cell.args, state_arity(p.protocol(), cell.state));
-    Running {
-        at: entry.door.at as usize,
-        slots: slots_at(entry, &args, m),
-        stack: Operands::new(),
-        came: m.payload,
-        me,
-        home,
-        block: m.block,
-        infos: copied(&cell.infos),
-        tag: blocks.tag(m.block),
-        words: blocks.words(m.block),
-        kept: Kept::No,
-        freed: false,
-        woke: false,
-        state: cell.state,
-        args,
-        cont: cell.cont,
-        ops: 0,
-        records: 0,
-    }
+    run.at = entry.door.at as usize;
+    enter_slots(&mut run.slots, entry, &args, m);
+    run.stack.clear();
+    run.came = m.payload;
+    run.me = me;
+    run.home = home;
+    run.block = m.block;
+    run.infos = copied(&cell.infos);
+    run.tag = blocks.tag(m.block);
+    run.words = blocks.words(m.block);
+    run.kept = Kept::No;
+    run.freed = false;
+    run.woke = false;
+    run.state = cell.state;
+    run.args = args;
+    run.cont = cell.cont;
+    run.ops = 0;
+    run.records = 0;
 }
 
 /// Keeps what a run left of its cell.
@@ -103,7 +103,8 @@ fn run_at(
     me: NodeId,
     home: NodeId,
     m: &Message,
-    around: &mut Around,
+    run: &mut Running,
+    unsent: &mut Unsent,
 ) -> Ran
     requires is_door { door_for code.now cell.old.state m.now.kind ≡ Some entry.now.door.now }
     requires locals { entry.now.handler.now.locals ≡ locals_of p.now entry.now.door.now }
@@ -116,17 +117,17 @@ fn run_at(
     requires full { IsFull blocks.old.shape.words m.now.payload }
     ensures leaves { (e : Stopped)
         × Runs p.now code.now (entered p.now entry.now.door.now me home m.now.block (tag_of blocks.old m.now.block) (block_words blocks.old m.now.block) (kept_of p.now cell.old) (saved_from p.now conts.old cell.old.cont) m.now) e
-        × Leaves p.now me m.now cell.old cell.new blocks.old blocks.new conts.new around.new.sent result e }
+        × Leaves p.now me m.now cell.old cell.new blocks.old blocks.new conts.new unsent.new.sent result e }
     ensures chain { IsChain blocks.old.shape.words conts.new cell.new.cont }
     ensures others { KeepsOthers conts.old conts.new cell.old.cont cell.new.cont }
-    ensures room { around.new.room ≡ around.old.room }
+    ensures room { unsent.new.room ≡ unsent.old.room }
 {
-    around.clear();
-    let mut r = enter(p, entry, cell, blocks, me, home, m);
-    let end = r.go(code, p.protocol(), conts, around);
-    blocks.set_tag(m.block, r.tag);
-    blocks.install(m.block, r.words);
-    leave(&r, cell, end)
+    unsent.clear();
+    enter(run, p, entry, cell, blocks, me, home, m);
+    let end = run.go(code, p.protocol(), conts, unsent);
+    blocks.set_tag(m.block, run.tag);
+    blocks.install(m.block, run.words);
+    leave(run, cell, end)
 }
 
 /// Runs the code of a protocol on a message for a block, from the door that the message's kind has in the block's state,
@@ -165,5 +166,17 @@ pub fn run(
 {
     stops_once();
     let entry = entry_for(code, doors, p, cell.state, m.kind);
-    run_at(code, p, &entry, cell, blocks, conts, me, home, m, around)
+    run_at(
+        code,
+        p,
+        &entry,
+        cell,
+        blocks,
+        conts,
+        me,
+        home,
+        m,
+        &mut around.run,
+        &mut around.unsent,
+    )
 }

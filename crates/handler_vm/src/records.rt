@@ -1,14 +1,12 @@
-ghost use Rattle.std.specs.Prelude.{◌≡◌, ◌+◌, ◌<◌, ◌≤◌, [], List, None, Some, length, reverse, slice_get, take, true};
-ghost use Rattle.std.specs.Prelude.{Option};
+ghost use Rattle.std.specs.Prelude.{◌≡◌, ◌+◌, ◌<◌, ◌≤◌, List, None, Some, length, reverse, slice_get, take};
 ghost use Rattle.cont_store.specs.declared.record.RecordKey.{RecordKey};
-ghost use Rattle.cont_store.specs.Store.{Store};
 ghost use Rattle.tw_base.specs.declared.message.Message.{Message};
 ghost use Rattle.handler_code.specs.Machine.{Next, place_of_rest, resumed, state_arity, stopped, suspended};
 ghost use Rattle.handler_vm.specs.Chains.{IsChain, KeepsOthersFrom, Spares, records_of, saved_from};
 ghost use Rattle.handler_vm.specs.Inside.{HasFew, IsSound, IsStop, SameBlock, machine_of};
 
 use crate::running::Running;
-use crate::values::{Args, Slots};
+use crate::values::Args;
 use crate::work::state_arity;
 use cont_store::{Conts, Record, RecordKey};
 use handler_code::Code;
@@ -51,7 +49,7 @@ impl Running {
     {
         let record = conts.take(key);
         self.at = place_of_rest(code, record.rest);
-        self.slots = Slots::all(record.values);
+        self.slots.set_all(&record.values);
         self.came = record.came;
         self.stack.clear();
         self.state = record.state;

@@ -2,12 +2,14 @@ ghost use Rattle.std.specs.Prelude.{◌≡◌, ◌∷◌, ◌+◌, ◌-◌, ◌^
 ghost use Rattle.teapot_meaning.specs.Steps.{freed_kept};
 ghost use Rattle.handler_code.specs.Machine.{below, landing, top, value_at};
 
+use crate::sets::node;
 use crate::values::{Args, Operands, Slots};
 use cont_store::RecordKey;
 use teapot_meaning::{Kept, free};
 use tw_base::{BlockId, Data, NodeId, Tag, Value};
 
-/// A run under way: what the machine of ops has, but for its sends and its records, of which it has the newest's key.
+/// A run under way: what the machine of ops has, but for its sends and its records, of which it has the newest's key. Between
+/// messages it is what the last one left of it.
 #[derive(Drop)]
 pub(crate) struct Running {
     pub at: usize,
@@ -31,6 +33,33 @@ pub(crate) struct Running {
 }
 
 impl Running {
+    /// Before the first message.
+    pub(crate) fn idle() -> Running {
+        Running {
+            at: 0,
+            slots: Slots::new(),
+            stack: Operands::new(),
+            came: None,
+            me: node(0),
+            home: node(0),
+            block: BlockId::new(0).unwrap(),
+            infos: [Value::Int(0); 8],
+            tag: Tag::Invalid,
+            words: Data {
+                words: [0; 8],
+                len: 0,
+            },
+            kept: Kept::No,
+            freed: false,
+            woke: false,
+            state: 0,
+            args: Args::of(&[]),
+            cont: None,
+            ops: 0,
+            records: 0,
+        }
+    }
+
     /// Counts an op, which the next one follows.
     pub(crate) fn count(&mut self)
         requires place { self.old.at + 1 < 2 ^ 64 }

@@ -5,9 +5,9 @@ ghost use Rattle.handler_code.specs.Machine.{below, message_arity, top};
 ghost use Rattle.handler_vm.specs.Inside.{HasFew, StaysUnsent};
 ghost use Rattle.handler_vm.specs.Sending.{IsUnsent, addressed, chan_in, out_of};
 
-use crate::around::Around;
 use crate::running::Running;
 use crate::sets::node;
+use crate::unsent::Unsent;
 use crate::values::Args;
 use teapot_meaning::{node as node_in, set_of};
 use teapot_tree::Protocol;
@@ -51,14 +51,14 @@ fn addressed(m: &Message, to: NodeId) -> Message
 }
 
 /// Sends the message to each node of a set, in rising order.
-fn send_each(set: NodeSet, m: &Message, around: &mut Around)
-    requires { length around.old.sent + length (nodes_in set) ≤ around.old.room }
-    ensures { around.new ≡ record { sent = around.old.sent ++ map (addressed m.now) (nodes_in set); room = around.old.room } }
+fn send_each(set: NodeSet, m: &Message, unsent: &mut Unsent)
+    requires { length unsent.old.sent + length (nodes_in set) ≤ unsent.old.room }
+    ensures { unsent.new ≡ record { sent = unsent.old.sent ++ map (addressed m.now) (nodes_in set); room = unsent.old.room } }
 {
     for k in 0..8 {
         let to = node(k);
         if set.has(to) {
-            around.push(addressed(m, to));
+            unsent.push(addressed(m, to));
         }
     }
 }
@@ -93,44 +93,44 @@ impl Running {
     }
 
     /// Sends to the node below the arguments on the stack.
-    pub(crate) fn send(&mut self, p: &Protocol, number: u8, around: &mut Around)
+    pub(crate) fn send(&mut self, p: &Protocol, number: u8, unsent: &mut Unsent)
         requires few { HasFew p.now }
         requires declared { number < length p.now.messages }
         requires enough { message_arity (slice_get p.now.messages number) + 1 ≤ length self.old.stack }
-        requires room { length around.old.sent < around.old.room }
+        requires room { length unsent.old.sent < unsent.old.room }
         ensures stack { let count = message_arity (slice_get p.now.messages number)
             in self.new ≡ record self.old { stack = below (drop count self.old.stack) } }
         ensures sent { let count = message_arity (slice_get p.now.messages number) in
             let payload = payload_of (slice_get p.now.messages number) self.old.words
-            in map out_of around.new.sent ≡ map out_of around.old.sent ++ out_to number (reverse (take count self.old.stack)) payload (node_of (top (drop count self.old.stack))) ∷ [] }
-        ensures unsent { StaysUnsent p.now self.old around.old around.new }
-        ensures room { around.new.room ≡ around.old.room }
+            in map out_of unsent.new.sent ≡ map out_of unsent.old.sent ++ out_to number (reverse (take count self.old.stack)) payload (node_of (top (drop count self.old.stack))) ∷ [] }
+        ensures unsent { StaysUnsent p.now self.old unsent.old unsent.new }
+        ensures room { unsent.new.room ≡ unsent.old.room }
     {
         let args = self.take(message_arity(p, number));
         let to = node_in(self.pop());
         let payload = payload(p, number, &self.words);
-        around.push(self.message(p, to, number, &args, &payload));
+        unsent.push(self.message(p, to, number, &args, &payload));
     }
 
     /// Sends to each node of the set below the arguments on the stack.
-    pub(crate) fn send_all(&mut self, p: &Protocol, number: u8, around: &mut Around)
+    pub(crate) fn send_all(&mut self, p: &Protocol, number: u8, unsent: &mut Unsent)
         requires few { HasFew p.now }
         requires declared { number < length p.now.messages }
         requires enough { message_arity (slice_get p.now.messages number) + 1 ≤ length self.old.stack }
         requires room { let count = message_arity (slice_get p.now.messages number)
-            in length around.old.sent + length (nodes_in (set_of (top (drop count self.old.stack)))) ≤ around.old.room }
+            in length unsent.old.sent + length (nodes_in (set_of (top (drop count self.old.stack)))) ≤ unsent.old.room }
         ensures stack { let count = message_arity (slice_get p.now.messages number)
             in self.new ≡ record self.old { stack = below (drop count self.old.stack) } }
         ensures sent { let count = message_arity (slice_get p.now.messages number) in
             let payload = payload_of (slice_get p.now.messages number) self.old.words
-            in map out_of around.new.sent ≡ map out_of around.old.sent ++ map (out_to number (reverse (take count self.old.stack)) payload) (nodes_in (set_of (top (drop count self.old.stack)))) }
-        ensures unsent { StaysUnsent p.now self.old around.old around.new }
-        ensures room { around.new.room ≡ around.old.room }
+            in map out_of unsent.new.sent ≡ map out_of unsent.old.sent ++ map (out_to number (reverse (take count self.old.stack)) payload) (nodes_in (set_of (top (drop count self.old.stack)))) }
+        ensures unsent { StaysUnsent p.now self.old unsent.old unsent.new }
+        ensures room { unsent.new.room ≡ unsent.old.room }
     {
         let args = self.take(message_arity(p, number));
         let set = set_of(self.pop());
         let payload = payload(p, number, &self.words);
         let first = self.message(p, self.me, number, &args, &payload);
-        send_each(set, &first, around);
+        send_each(set, &first, unsent);
     }
 }

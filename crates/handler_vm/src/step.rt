@@ -6,8 +6,8 @@ ghost use Rattle.handler_vm.specs.Chains.{KeepsOthersFrom, Spares, saved_from};
 ghost use Rattle.handler_vm.specs.Inside.{HasFew, IsSound, IsStop, OnNext, SameBlock, StaysUnsent, machine_of, machine_with};
 ghost use Rattle.handler_vm.specs.Room.{IsThere};
 
-use crate::around::Around;
 use crate::running::Running;
+use crate::unsent::Unsent;
 use cont_store::Conts;
 use handler_code::{Code, OpCode};
 use teapot_tree::Protocol;
@@ -43,7 +43,7 @@ impl Running {
         code: &Code,
         p: &Protocol,
         conts: &mut Conts,
-        around: &mut Around,
+        unsent: &mut Unsent,
         op: OpCode,
     ) -> Option<End>
         requires few { HasFew p.now }
@@ -54,28 +54,28 @@ impl Running {
         requires enough { taken_by p.now op ≤ length self.old.stack }
         requires there { IsThere p.now code.now (length self.old.slots) op }
         requires fits { length self.old.stack + put_by op ≤ 24 + taken_by p.now op }
-        requires room { OnNext (λ n. length n.around.sends ≤ around.old.room) (act p.now code.now op (machine_with p.now self.old around.old conts.old)) }
-        ensures on { IfNone result (act p.now code.now op (machine_with p.now self.old around.old conts.old)
-            ≡ Next (machine_with p.now self.new around.new conts.new)) }
+        requires room { OnNext (λ n. length n.around.sends ≤ unsent.old.room) (act p.now code.now op (machine_with p.now self.old unsent.old conts.old)) }
+        ensures on { IfNone result (act p.now code.now op (machine_with p.now self.old unsent.old conts.old)
+            ≡ Next (machine_with p.now self.new unsent.new conts.new)) }
         ensures sound { IfNone result (IsSound p.now self.new conts.new) }
         ensures spares { IfNone result (Spares conts.old conts.new self.old.cont self.new.cont) }
-        ensures over { IfSome result (λ end. (e : Stopped) × (act p.now code.now op (machine_with p.now self.old around.old conts.old) ≡ Stop e)
-            × IsStop p.now self.new around.new.sent conts.new end e) }
+        ensures over { IfSome result (λ end. (e : Stopped) × (act p.now code.now op (machine_with p.now self.old unsent.old conts.old) ≡ Stop e)
+            × IsStop p.now self.new unsent.new.sent conts.new end e) }
         ensures others { OnSome result (KeepsOthersFrom (length self.old.words) conts.old conts.new self.old.cont self.new.cont) }
-        ensures unsent { StaysUnsent p.now self.old around.old around.new }
-        ensures room { around.new.room ≡ around.old.room }
+        ensures unsent { StaysUnsent p.now self.old unsent.old unsent.new }
+        ensures room { unsent.new.room ≡ unsent.old.room }
         ensures block { SameBlock p.now self.old self.new }
         ensures words { length self.new.words ≡ length self.old.words }
     {
         match op {
             OpCode::Send(number) => {
                 self.count();
-                self.send(p, number, around);
+                self.send(p, number, unsent);
                 None
             }
             OpCode::SendAll(number) => {
                 self.count();
-                self.send_all(p, number, around);
+                self.send_all(p, number, unsent);
                 None
             }
             OpCode::Suspend(state, rest) => Some(self.leave(code, p, conts, state, rest)),

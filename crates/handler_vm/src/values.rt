@@ -43,11 +43,18 @@ impl Slots {
         }
     }
 
-    /// All 21.
-    pub(crate) fn all(values: [Value; 21]) -> Slots
-        ensures { result ≡ values }
+    pub(crate) fn clear(&mut self)
+        ensures { self.new ≡ [] }
     {
-        Slots { values, width: 21 }
+        self.width = 0;
+    }
+
+    /// All 21 are set.
+    pub(crate) fn set_all(&mut self, values: &[Value; 21])
+        ensures { self.new ≡ values.now }
+    {
+        self.values.copy_from_slice(values);
+        self.width = 21;
     }
 
     pub(crate) fn len(&self) -> usize

@@ -1,4 +1,4 @@
-ghost use Rattle.std.specs.Prelude.{◌≡◌, ℕ, ◌∷◌, ◌+◌, ◌^◌, ◌<◌, ◌≤◌, List, MatchOption, drop, length, reverse, slice_get, slice_set, take, true};
+ghost use Rattle.std.specs.Prelude.{◌≡◌, ◌∷◌, ◌+◌, ◌^◌, ◌<◌, ◌≤◌, List, MatchOption, drop, length, reverse, slice_get, slice_set, take, true};
 ghost use Rattle.tw_base.specs.NodeSets.{without};
 ghost use Rattle.tw_base.specs.declared.message.Message.{Message};
 ghost use Rattle.teapot_meaning.specs.Steps.{freed_kept, least_of, set_of};

@@ -15,8 +15,8 @@ use Rattle.handler_vm.specs.Sending.{IsUnsent, Sends}
 use Rattle.handler_vm.proofs.Entering.{door_among, has_few, wide_filled}
 use Rattle.handler_vm.proofs.machine.run_at.Goals as goal
 
-pub enter-r-requires-clause-few : goal.enter-r-requires-clause-few
-enter-r-requires-clause-few c =
+pub enter-requires-clause-few : goal.enter-requires-clause-few
+enter-requires-clause-few c =
     let among = door_among c.args.code.now c.args.cell.now.state c.args.m.now.kind c.args.entry.now.door.now c.requires.is_door in
     let places = c.requires.room.places in
     omega (arith, (places.doors among.place c.args.entry.now.door.now among.is).1, places.most c.args.entry.now.door.now.at)
@@ -31,15 +31,15 @@ go-end-requires-clause-sound c =
     let words = block_words c.args.blocks.now c.args.m.now.block in
     let count = state_arity (slice_get p.states cell.state) in
     let start = begun p c.args.entry.now.door.now c.args.me c.args.home (tag_of c.args.blocks.now c.args.m.now.block) words cell c.args.m.now in
-    let few : count ≤ length cell.args = omega (arith, (has_few p c.protocol.ensures.accepted).states cell.state, c.enter-r.ensures.places) in
+    let few : count ≤ length cell.args = omega (arith, (has_few p c.protocol.ensures.accepted).states cell.state, c.enter.ensures.places) in
     let sound : IsSound p start c.args.conts.now = record {
       arity = length-take-le count cell.args few;
-      came = subst (λ (n : ℕ). IsFull n c.args.m.now.payload) (sym c.enter-r.ensures.words) c.requires.full;
+      came = subst (λ (n : ℕ). IsFull n c.args.m.now.payload) (sym c.enter.ensures.words) c.requires.full;
       none_made = refl;
-      chain = subst (λ (n : ℕ). IsChain n c.args.conts.now cell.cont) (sym c.enter-r.ensures.words) c.requires.chain;
+      chain = subst (λ (n : ℕ). IsChain n c.args.conts.now cell.cont) (sym c.enter.ensures.words) c.requires.chain;
       spare = c.requires.spare;
     } in
-    subst (λ (x : Protocol). IsSound x c.enter-r.result c.args.conts.now) (sym c.protocol.ensures.value) (subst (λ (x : Running). IsSound p x c.args.conts.now) (sym c.enter-r.ensures.run) sound)
+    subst (λ (x : Protocol). IsSound x c.enter.new.run c.args.conts.now) (sym c.protocol.ensures.value) (subst (λ (x : Running). IsSound p x c.args.conts.now) (sym c.enter.ensures.run) sound)
 
 pub go-end-requires-clause-placed : goal.go-end-requires-clause-placed
 go-end-requires-clause-placed c =
@@ -52,7 +52,7 @@ go-end-requires-clause-placed c =
     let at_door = room.places.doors among.place door among.is in
     let wide : room.width door.at ≤ length start.slots = omega (arith, at_door.1, wide_filled door.slots (Node c.args.m.now.from ∷ (start.args ++ (args_taken door.on c.args.m.now ++ zeros_of (locals_of p door))))) in
     let placed : IsAtOp p code start = record { room = room; deep = room.stack.doors among.place door among.is; there = at_door.0; wide = wide } in
-    subst (λ (x : Protocol). IsAtOp x code c.enter-r.result) (sym c.protocol.ensures.value) (subst (λ (x : Running). IsAtOp p code x) (sym c.enter-r.ensures.run) placed)
+    subst (λ (x : Protocol). IsAtOp x code c.enter.new.run) (sym c.protocol.ensures.value) (subst (λ (x : Running). IsAtOp p code x) (sym c.enter.ensures.run) placed)
 
 pub returns-clause-leaves : goal.returns-clause-leaves
 returns-clause-leaves c =
@@ -62,11 +62,11 @@ returns-clause-leaves c =
     let code = c.args.code.now in
     let conts = c.args.conts.now in
     let was = c.args.cell.now in
-    let first = c.enter-r.result in
+    let first = c.enter.new.run in
     let start = begun p c.args.entry.now.door.now c.args.me c.args.home (tag_of c.args.blocks.now c.args.m.now.block) (block_words c.args.blocks.now c.args.m.now.block) was c.args.m.now in
-    let begins : first ≡ start = c.enter-r.ensures.run in
+    let begins : first ≡ start = c.enter.ensures.run in
     let r = c.go-end.new.self in
-    let sent = c.go-end.new.around.sent in
+    let sent = c.go-end.new.unsent.sent in
     let stop = c.go-end.ensures.stop in
     let e = stop.0 in
     let is = stop.2 in

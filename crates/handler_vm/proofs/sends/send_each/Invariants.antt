@@ -6,6 +6,6 @@ use Rattle.handler_vm.proofs.sends.send_each.Given as goal
 
 abbrev pub invariant-loop-k : goal.invariant-loop-k
 invariant-loop-k l = record {
-  sent : l.around.sent ≡ l.initial.around.sent ++ map (addressed l.m) (members_from 0 (take l.k l.set));
-  room : l.around.room ≡ l.initial.around.room;
+  sent : l.unsent.sent ≡ l.initial.unsent.sent ++ map (addressed l.m) (members_from 0 (take l.k l.set));
+  room : l.unsent.room ≡ l.initial.unsent.room;
 }

@@ -18,8 +18,8 @@ pub step-requires-clause-room : goal.step-requires-clause-room
 step-requires-clause-room c =
     let p = c.args.p.now in
     let code = c.args.code.now in
-    let m = machine_of p c.args.self.now c.args.around.now.sent (saved_from p c.args.conts.now c.args.self.now.cont) in
-    subst (λ (x : Move). OnNext (λ n. length n.around.sends ≤ c.args.around.now.room) x) (move_is p code m c.op_at-op.result c.op_at-op.ensures.value) (room_next p code c.args.around.now.room c.requires.stops.runs c.requires.stops.sends)
+    let m = machine_of p c.args.self.now c.args.unsent.now.sent (saved_from p c.args.conts.now c.args.self.now.cont) in
+    subst (λ (x : Move). OnNext (λ n. length n.around.sends ≤ c.args.unsent.now.room) x) (move_is p code m c.op_at-op.result c.op_at-op.ensures.value) (room_next p code c.args.unsent.now.room c.requires.stops.runs c.requires.stops.sends)
 
 pub step-requires-clause-there : goal.step-requires-clause-there
 step-requires-clause-there c =

@@ -4,8 +4,8 @@ use Rattle.handler_vm.proofs.running.Running.go.Given as goal
 
 abbrev pub invariant-ops : goal.invariant-ops
 invariant-ops l = record {
-  underway : Underway l.p l.code l.initial.self l.initial.around.sent l.initial.conts l.self l.around.sent l.conts l.around.room;
-  room : l.around.room ≡ l.initial.around.room;
+  underway : Underway l.p l.code l.initial.self l.initial.unsent.sent l.initial.conts l.self l.unsent.sent l.conts l.unsent.room;
+  room : l.unsent.room ≡ l.initial.unsent.room;
 }
 
 abbrev pub decreases-ops : goal.decreases-ops

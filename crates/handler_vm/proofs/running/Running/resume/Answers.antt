@@ -18,7 +18,7 @@ returns-clause-next c = λ sent.
     let u = unwound (length was.words) old c.take-record.new.self c.args.key r chain c.take-record.ensures.taken c.take-record.ensures.changes in
     let all : saved_from p old was.cont ≡ saved_of p r ∷ saved_from p c.take-record.new.self r.parent = ap (saved_from p old) c.requires.newest ∙ ap (map (saved_of p)) u.records in
     ap (resumed c.args.code.now (machine_of p was sent (saved_from p old was.cont))) all
-    ∙ rw (c.free.ensures, c.place_of_rest-self.ensures, c.all-self.ensures, c.clear.ensures, c.first-self.ensures, c.saved_arity.ensures) refl
+    ∙ rw (c.free.ensures, c.place_of_rest-self.ensures, c.set_all.ensures, c.clear.ensures, c.first-self.ensures, c.saved_arity.ensures) refl
 
 pub returns-clause-sound : goal.returns-clause-sound
 returns-clause-sound c =

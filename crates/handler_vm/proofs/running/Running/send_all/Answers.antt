@@ -13,7 +13,7 @@ use Rattle.handler_vm.proofs.running.Running.send_all.Goals as goal
 pub returns-clause-sent : goal.returns-clause-sent
 returns-clause-sent c =
     let was = c.args.self.now in
-    let before = c.args.around.now.sent in
+    let before = c.args.unsent.now.sent in
     let number = c.args.number in
     let decl = slice_get c.args.p.now.messages number in
     let args : c.take-args.result ≡ reverse (take (message_arity decl) was.stack) = c.take-args.ensures.args ∙ ap (λ n. reverse (take n was.stack)) c.message_arity.ensures in
@@ -34,4 +34,4 @@ returns-clause-unsent c = λ all.
     let m = c.message-first.result in
     let there : IsUnsent p c.take-args.new.self.me c.take-args.new.self.block m = subst (λ (r : Running). IsUnsent p r.me r.block m) c.pop.ensures.rest c.message-first.ensures.unsent in
     let here : IsUnsent p was.me was.block m = subst (λ (r : Running). IsUnsent p r.me r.block m) c.take-args.ensures.rest there in
-    subst (λ (s : Sends). All (IsUnsent p was.me was.block) s.sent) (sym c.send_each.ensures) (unsent_more p was.me was.block c.args.around.now.sent m (nodes_in c.set_of-set.result) here all)
+    subst (λ (s : Sends). All (IsUnsent p was.me was.block) s.sent) (sym c.send_each.ensures) (unsent_more p was.me was.block c.args.unsent.now.sent m (nodes_in c.set_of-set.result) here all)

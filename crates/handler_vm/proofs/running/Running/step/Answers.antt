@@ -10,7 +10,7 @@ use Rattle.handler_vm.proofs.Stopping.{stop_is, sound_kept}
 use Rattle.handler_vm.proofs.running.Running.step.Goals as goal
 
 pub returns-in-Suspend-clause-over : goal.returns-in-Suspend-clause-over
-returns-in-Suspend-clause-over c = rw c.in-Suspend.is (c.leave.ensures.stop c.args.around.now.sent)
+returns-in-Suspend-clause-over c = rw c.in-Suspend.is (c.leave.ensures.stop c.args.unsent.now.sent)
 
 pub returns-in-None-clause-over : goal.returns-in-None-clause-over
 returns-in-None-clause-over c =
@@ -19,13 +19,13 @@ returns-in-None-clause-over c =
     let store = c.args.conts.now in
     let now : Running = record was { at = was.at + 1; ops = was.ops + 1 } in
     let sound : IsSound p now store = sound_kept p was now store c.requires.sound c.requires.sound.arity refl refl refl refl in
-    let m = machine_of p was c.args.around.now.sent (saved_from p store was.cont) in
+    let m = machine_of p was c.args.unsent.now.sent (saved_from p store was.cont) in
     let none : was.cont ≡ None = ap (λ r. r.cont) (sym c.count-in-Resume.ensures) ∙ c.in-None.is in
     let left : saved_from p store was.cont ≡ [] = ap (saved_from p store) none in
     rw (c.in-Resume.is, c.count-in-Resume.ensures) (
       stopped (counted m) Fine,
       ap (resumed c.args.code.now (counted m)) left,
-      stop_is p now c.args.around.now.sent store Fine sound,
+      stop_is p now c.args.unsent.now.sent store Fine sound,
     )
 
 pub returns-in-None-clause-others : goal.returns-in-None-clause-others
@@ -38,11 +38,11 @@ returns-in-Fail-clause-over c =
     let store = c.args.conts.now in
     let now : Running = record was { at = was.at + 1; ops = was.ops + 1 } in
     let sound : IsSound p now store = sound_kept p was now store c.requires.sound c.requires.sound.arity refl refl refl refl in
-    let m = machine_of p was c.args.around.now.sent (saved_from p store was.cont) in
+    let m = machine_of p was c.args.unsent.now.sent (saved_from p store was.cont) in
     rw (c.in-Fail.is, c.count-in-Fail.ensures) (
       stopped (counted m) (Failed c.in-Fail.number),
       refl,
-      stop_is p now c.args.around.now.sent store (Failed c.in-Fail.number) sound,
+      stop_is p now c.args.unsent.now.sent store (Failed c.in-Fail.number) sound,
     )
 
 pub returns-in-Fail-clause-others : goal.returns-in-Fail-clause-others
@@ -55,11 +55,11 @@ returns-in-Done-clause-over c =
     let store = c.args.conts.now in
     let now : Running = record was { at = was.at + 1; ops = was.ops + 1 } in
     let sound : IsSound p now store = sound_kept p was now store c.requires.sound c.requires.sound.arity refl refl refl refl in
-    let m = machine_of p was c.args.around.now.sent (saved_from p store was.cont) in
+    let m = machine_of p was c.args.unsent.now.sent (saved_from p store was.cont) in
     rw (c.in-Done.is, c.count-in-Done.ensures) (
       stopped (counted m) Fine,
       refl,
-      stop_is p now c.args.around.now.sent store Fine sound,
+      stop_is p now c.args.unsent.now.sent store Fine sound,
     )
 
 pub returns-in-Done-clause-others : goal.returns-in-Done-clause-others
@@ -75,7 +75,7 @@ returns-in_default c =
     let was = c.args.self.now in
     let now = c.work.new.self in
     let store = c.args.conts.now in
-    let sent = c.args.around.now.sent in
+    let sent = c.args.unsent.now.sent in
     let chain = saved_from p store was.cont in
     let m = machine_of p was sent chain in
     let inner : IsInner c.args.op = search rules in
