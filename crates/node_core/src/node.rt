@@ -1,4 +1,4 @@
-ghost use Rattle.std.specs.Prelude.{ℕ, ◌≡◌, ◌+◌, ◌-◌, ◌*◌, ◌<◌, ◌^◌, ◌↔◌, ◌&&◌, ◌++◌, [], not, is_some, true, None, Some, length, slice_get, slice_set, option_to_list, IfOk, IfSome, IsTrue, OnErr, OnOk};
+ghost use Rattle.std.specs.Prelude.{ℕ, ◌≡◌, ◌+◌, ◌-◌, ◌*◌, ◌<◌, ◌^◌, ◌&&◌, ◌++◌, [], not, is_some, true, None, Some, length, slice_get, slice_set, option_to_list, IfOk, IfSome, OnErr, OnOk};
 ghost use Rattle.std.specs.Option.{option_copied};
 ghost use Rattle.tw_base.specs.declared.entry.Event.TheVariants as event;
 ghost use Rattle.tw_base.specs.declared.message.Chan.{Chan};
@@ -24,7 +24,7 @@ use handler_vm::Cell;
 use mini_asm::Cpu;
 use std::alloc::Global;
 use std::marker::Model;
-use tw_base::{BlockId, Chan, End, Entry, Memory, Message, NodeId};
+use tw_base::{BlockId, Chan, End, Entry, Listed, Memory, Message, NodeId};
 
 /// A node that runs its program guarded and its protocol's handlers compiled.
 #[derive(Drop)]
@@ -301,5 +301,14 @@ impl<'a> Node<'a> {
         ensures { result ≡ self.now.records }
     {
         self.state.records
+    }
+
+    /// The log, of a node that is done with.
+    pub fn into_log(self) -> Listed<Entry>
+        ensures { result ≡ self.entry.log }
+    {
+        let Node { state, .. } = self;
+        let State { log, .. } = state;
+        log.into_entries()
     }
 }

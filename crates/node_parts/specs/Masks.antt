@@ -1,5 +1,5 @@
 -- Messages that may be delivered, a bit each.
-use Rattle.std.specs.Prelude.{◌≡◌, ℕ, ◌<◌, ◌^◌, List, Option, None, length}
+use Rattle.std.specs.Prelude.{◌≡◌, ℕ, ◌<◌, List, Option, None, length}
 use Rattle.std.specs.List.{slice_index_or}
 use Rattle.tw_base.specs.Bits.{has_bit}
 use Rattle.tw_base.specs.declared.message.Message.{Message}

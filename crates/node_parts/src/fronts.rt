@@ -1,9 +1,8 @@
-ghost use Rattle.std.specs.Prelude.{◌≡◌, ◌≢◌, ◌+◌, ◌-◌, ◌<◌, ◌^◌, ℕ, None, Some, length, slice_index, slice_set, replicate};
+ghost use Rattle.std.specs.Prelude.{◌≡◌, ◌≢◌, ◌+◌, ◌-◌, ◌<◌, ◌^◌, ℕ, None, Some, slice_index, slice_set, replicate};
 ghost use Rattle.std.specs.List.{slice_index_or};
 ghost use Rattle.std.specs.Option.{option_copied};
 ghost use Rattle.tw_base.specs.Bits.{has_bit};
 ghost use Rattle.dsm_runs.specs.Messages.{place};
-ghost use Rattle.dsm_runs.specs.Tests.{is_early};
 
 use crate::place;
 use std::marker::Model;

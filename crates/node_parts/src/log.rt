@@ -1,8 +1,8 @@
-ghost use Rattle.std.specs.Prelude.{◌≡◌, ◌+◌, ◌<◌, ◌≤◌, [], ◌∷◌, ◌++◌, length, slice_get, OnOk, ◌-◌};
+ghost use Rattle.std.specs.Prelude.{◌≡◌, ◌+◌, ◌<◌, ◌≤◌, [], ◌∷◌, ◌++◌, length, OnOk, ◌-◌};
 
 use std::alloc::Global;
 use std::marker::Model;
-use tw_base::{Act, Entry, Memory};
+use tw_base::{Act, Entry, Listed, Memory};
 
 /// The log of a node, the oldest entry first.
 #[derive(Drop)]
@@ -20,7 +20,7 @@ impl Model for Log {
 }
 
 impl Log {
-    ghost use Rattle.std.specs.Prelude.{vec_capacity, vec_len, IfSome};
+    ghost use Rattle.std.specs.Prelude.{vec_capacity};
 
     /// No entry.
     pub fn new(alloc: Global) -> Self
@@ -54,5 +54,13 @@ impl Log {
         ensures { result.now ≡ self.now.list }
     {
         self.entries.as_slice()
+    }
+
+    /// The entries, of a log that is done with.
+    pub fn into_entries(self) -> Listed<Entry>
+        ensures { result ≡ self.list }
+    {
+        let Log { entries } = self;
+        Listed::of(entries)
     }
 }

@@ -1,4 +1,4 @@
-use Rattle.std.proofs.Common.{◌≡◌, ◌*◌, ◌^◌, ◌%◌, arith}
+use Rattle.std.proofs.Common.{◌*◌, arith}
 use Rattle.std.proofs.lemmas.Nat.{one_shl}
 use Rattle.node_parts.proofs.Masking.{tests_are, tests_small}
 use Rattle.node_parts.proofs.masks.tests_word.Goals as goal
