@@ -1,45 +1,96 @@
 -- The bits of a word, one after another.
-use Rattle.std.proofs.Common.{◌≡◌, ◌∙◌, ℕ, zero, suc, ◌+◌, ◌-◌, ◌*◌, ◌/◌, ◌%◌, ◌^◌, ◌<◌, Bool, true, false, List, [], ◌∷◌, Option, Some, None, length, refl, sym, ap, arith, count_ones}
+use Rattle.std.proofs.Common.{◌≡◌, ◌∙◌, ℕ, zero, suc, ◌+◌, ◌-◌, ◌*◌, ◌/◌, ◌%◌, ◌^◌, ◌<◌, ◌≤◌, Bool, true, false, List, [], ◌∷◌, Option, Some, None, length, min, refl, sym, ap, subst, arith, inl, inr, bit_and, count_ones}
 use Rattle.std.specs.Prelude.{◌==◌, slice_get}
 use Rattle.std.specs.Option.{option_map, option_and_then}
-use Rattle.std.specs.Int.Count.{ones_step}
+use Rattle.std.proofs.Math.Nat.{zero-min}
+use Rattle.std.specs.Int.Bits.{and_self, and_step}
+use Rattle.std.specs.Int.Count.{count_trailing_zeros, ones_step, under}
 use Rattle.std.proofs.lemmas.Nat.{ones-le, pow-add}
-use Rattle.std.proofs.lemmas.Bool.Decides.{nat_tests}
+use Rattle.std.proofs.lemmas.Bool.{cases_eq}
 use Rattle.event_masks.specs.Told.{told, true_at}
 use Rattle.node_parts.specs.Truths.{truths}
 
 -- ---- the k-th that is true
 
-first : (n place left : ℕ) → place < n → truths (n - place) left ≡ (left % 2 == 1) ∷ truths (n - (place + 1)) (left / 2)
+-- an odd word without its lowest 1
+odd_cleared : (w : ℕ) → w % 2 ≡ 1 → (bit_and w (w - 1) % 2 ≡ 0) × (bit_and w (w - 1) / 2 ≡ w / 2)
+odd_cleared w odd =
+    let less : (w - 1) % 2 ≡ 0 = omega arith in
+    let same : (w - 1) / 2 ≡ w / 2 = omega arith in
+    let low : min (w % 2) ((w - 1) % 2) ≡ 0 = ap (λ a. min a ((w - 1) % 2)) odd ∙ ap (λ b. min 1 b) less in
+    let high : bit_and (w / 2) ((w - 1) / 2) ≡ w / 2 = ap (λ b. bit_and (w / 2) b) same ∙ and_self (w / 2) in
+    let both : bit_and w (w - 1) ≡ bit_and (w / 2) ((w - 1) / 2) * 2 + min (w % 2) ((w - 1) % 2) = and_step w (w - 1) in
+    (omega (arith, both, low), omega (arith, both, low, high))
+
+-- an even word without its lowest 1
+even_cleared : (w : ℕ) → 0 < w → w % 2 ≡ 0 →
+    (bit_and w (w - 1) % 2 ≡ 0) × (bit_and w (w - 1) / 2 ≡ bit_and (w / 2) (w / 2 - 1))
+even_cleared w some even =
+    let less : (w - 1) / 2 ≡ w / 2 - 1 = omega arith in
+    let low : min (w % 2) ((w - 1) % 2) ≡ 0 = ap (λ a. min a ((w - 1) % 2)) even ∙ zero-min ((w - 1) % 2) in
+    let high : bit_and (w / 2) ((w - 1) / 2) ≡ bit_and (w / 2) (w / 2 - 1) = ap (λ b. bit_and (w / 2) b) less in
+    let both : bit_and w (w - 1) ≡ bit_and (w / 2) ((w - 1) / 2) * 2 + min (w % 2) ((w - 1) % 2) = and_step w (w - 1) in
+    (omega (arith, both, low), omega (arith, both, low, high))
+
+-- in a word without its lowest 1 each of the others comes one sooner
+pub cleared : (n w k : ℕ) → 0 < w → true_at (truths n w) (suc k) ≡ true_at (truths n (bit_and w (w - 1))) k
 unfolding truths
-first n place left low = let e : n - place ≡ suc (n - (place + 1)) = omega (arith, low) in ap (λ k. truths k left) e
+cleared zero w k some = refl
+cleared (suc n) w k some = elim (cases_eq (w % 2) 1) [
+  | inl odd ↦
+      let c = odd_cleared w odd in
+      ap (λ r. true_at ((r == 1) ∷ truths n (w / 2)) (suc k)) odd
+      ∙ sym (ap (λ r. true_at ((r == 1) ∷ truths n (bit_and w (w - 1) / 2)) k) c.0
+      ∙ ap (λ h. option_map suc (true_at (truths n h) k)) c.1)
+  | inr other ↦
+      let even : w % 2 ≡ 0 = omega (arith, other) in
+      let c = even_cleared w some even in
+      let half : 0 < w / 2 = omega arith in
+      ap (λ r. true_at ((r == 1) ∷ truths n (w / 2)) (suc k)) even
+      ∙ ap (λ o. option_map suc o) (cleared n (w / 2) k half)
+      ∙ sym (ap (λ r. true_at ((r == 1) ∷ truths n (bit_and w (w - 1) / 2)) k) c.0
+      ∙ ap (λ h. option_map suc (true_at (truths n h) k)) c.1)
+]
 
-moved : (place : ℕ) (o : Option ℕ) → option_map (λ n. place + n) (option_map suc o) ≡ option_map (λ n. place + 1 + n) o
-moved place None = refl
-moved place (Some n) = let e : place + suc n ≡ place + 1 + n = omega arith in ap Some e
-
-none_before : (o : Option ℕ) → o ≡ option_map (λ k. 0 + k) o
-none_before None = refl
-none_before (Some k) = let e : k ≡ 0 + k = omega arith in ap Some e
-
-pub begins : (n left more : ℕ) → true_at (truths n left) more ≡ option_map (λ k. 0 + k) (true_at (truths (n - 0) left) more)
-begins n left more = let e : n - 0 ≡ n = omega arith in none_before (true_at (truths n left) more) ∙ ap (λ j. option_map (λ k. 0 + k) (true_at (truths j left) more)) (sym e)
-
-pub found : (n place left : ℕ) → place < n → left % 2 ≡ 1 → option_map (λ k. place + k) (true_at (truths (n - place) left) 0) ≡ Some place
-found n place left low odd = rw (first n place left low, odd) (let e : place + 0 ≡ place = omega arith in ap Some e)
-
-pub passed : (n place left more less : ℕ) → place < n → left % 2 ≡ 1 → more ≡ suc less → option_map (λ k. place + k) (true_at (truths (n - place) left) more) ≡ option_map (λ k. place + 1 + k) (true_at (truths (n - (place + 1)) (left / 2)) less)
-passed n place left more less low odd e = rw (e, first n place left low, odd) (moved place (true_at (truths (n - (place + 1)) (left / 2)) less))
-
-even_false : (left : ℕ) → (left % 2 ≡ 1 → ⊥) → (left % 2 == 1) ≡ false
-even_false left h = grind (arith, nat_tests)
-
-pub skipped : (n place left more less : ℕ) → place < n → (left % 2 ≡ 1 → ⊥) → less ≡ more → option_map (λ k. place + k) (true_at (truths (n - place) left) more) ≡ option_map (λ k. place + 1 + k) (true_at (truths (n - (place + 1)) (left / 2)) less)
-skipped n place left more less low even e = rw (e, first n place left low, even_false left even) (moved place (true_at (truths (n - (place + 1)) (left / 2)) more))
-
-pub over : (n left more : ℕ) → option_map (λ k. n + k) (true_at (truths (n - n) left) more) ≡ None
+-- nothing is true in an empty word
+pub none_set : (n k : ℕ) → true_at (truths n 0) k ≡ None
 unfolding truths
-over n left more = let e : n - n ≡ 0 = omega arith in ap (λ j. option_map (λ k. n + k) (true_at (truths j left) more)) e
+none_set zero k = refl
+none_set (suc n) k = ap (λ o. option_map suc o) (none_set n k)
+
+-- the first that is true stands at the lowest 1
+pub lowest : (n k w : ℕ) → n ≤ k → count_trailing_zeros k w < n → true_at (truths n w) 0 ≡ Some (count_trailing_zeros k w)
+unfolding truths count_trailing_zeros
+lowest zero k w le low = absurd (omega (arith, low))
+lowest (suc n) zero w le low = absurd (omega (arith, le))
+lowest (suc n) (suc k) w le low = elim (cases_eq (w % 2) 1) [
+  | inl odd ↦
+      ap (λ r. true_at ((r == 1) ∷ truths n (w / 2)) 0) odd
+      ∙ sym (ap (λ r. Some (under r (count_trailing_zeros k (w / 2)))) odd)
+  | inr other ↦
+      let even : w % 2 ≡ 0 = omega (arith, other) in
+      let less : suc (count_trailing_zeros k (w / 2)) < suc n =
+      subst (λ r. under r (count_trailing_zeros k (w / 2)) < suc n) even low in
+      ap (λ r. true_at ((r == 1) ∷ truths n (w / 2)) 0) even
+      ∙ ap (λ o. option_map suc o) (lowest n k (w / 2) (omega (arith, le)) (omega (arith, less)))
+      ∙ sym (ap (λ r. Some (under r (count_trailing_zeros k (w / 2)))) even)
+]
+
+-- none is true where no 1 stands that low
+pub none_low : (n k w : ℕ) → n ≤ k → n ≤ count_trailing_zeros k w → true_at (truths n w) 0 ≡ None
+unfolding truths count_trailing_zeros
+none_low zero k w le high = refl
+none_low (suc n) zero w le high = absurd (omega (arith, le))
+none_low (suc n) (suc k) w le high = elim (cases_eq (w % 2) 1) [
+  | inl odd ↦ absurd
+      (let more : suc n ≤ 0 = subst (λ r. suc n ≤ under r (count_trailing_zeros k (w / 2))) odd high in omega (arith, more))
+  | inr other ↦
+      let even : w % 2 ≡ 0 = omega (arith, other) in
+      let more : suc n ≤ suc (count_trailing_zeros k (w / 2)) =
+      subst (λ r. suc n ≤ under r (count_trailing_zeros k (w / 2))) even high in
+      ap (λ r. true_at ((r == 1) ∷ truths n (w / 2)) 0) even
+      ∙ ap (λ o. option_map suc o) (none_low n k (w / 2) (omega (arith, le)) (omega (arith, more)))
+]
 
 -- ---- what is told, by place
 

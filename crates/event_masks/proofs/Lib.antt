@@ -1,2 +1,3 @@
 mod Bits
 pub mod Telling
+mod Counting

@@ -5,7 +5,6 @@ use Rattle.std.specs.List.{All, filter}
 use Rattle.std.specs.Option.{option_and_then}
 use Rattle.std.proofs.lemmas.Bool.{cases_eq}
 use Rattle.std.proofs.lemmas.List.Elements.{All-get_or, filter-append}
-use Rattle.std.proofs.lemmas.Nat.{ones-le}
 use Rattle.std.proofs.lemmas.Option.{slice_get_past}
 use Rattle.tw_base.specs.declared.entry.Event.{Event}
 use Rattle.tw_base.specs.declared.entry.Event.TheVariants as event
@@ -112,7 +111,7 @@ told_here n i m k more word words l is low e few =
 
 -- ---- the steps of the loops
 
-small_at : (words : List ℕ) (i : ℕ) → i < length words → All (λ w. w < 2 ^ (2 + 2 * length words)) words → slice_index words i < 2 ^ (2 + 2 * length words)
+pub small_at : (words : List ℕ) (i : ℕ) → i < length words → All (λ w. w < 2 ^ (2 + 2 * length words)) words → slice_index words i < 2 ^ (2 + 2 * length words)
 small_at words i l h = All-get_or (λ w. w < 2 ^ (2 + 2 * length words)) words i 0 l h
 
 pub told_found : (n i word k place : ℕ) (o : Option Event) → true_at (truths (2 + 2 * n) word) k ≡ Some place → o ≡ slice_get (node_events n i) place → o ≡ slice_get (told_at n i word) k
@@ -120,14 +119,6 @@ told_found n i word k place o at is = is ∙ sym (told_at_get n i word k ∙ ap 
 
 pub told_none : (n i word k : ℕ) → true_at (truths (2 + 2 * n) word) k ≡ None → None ≡ slice_get (told_at n i word) k
 told_none n i word k at = sym (told_at_get n i word k ∙ ap (λ (p : Option ℕ). option_and_then (slice_get (node_events n i)) p) at)
-
-pub count_more : (words : List ℕ) (count i : ℕ) → i < length words → length words ≤ 8 → All (λ w. w < 2 ^ (2 + 2 * length words)) words → count ≡ length (told_below (length words) words i) → count ≤ 32 * i
-    → (count + count_ones (slice_index words i) ≡ length (told_below (length words) words (i + 1))) × (count + count_ones (slice_index words i) ≤ 32 * (i + 1))
-count_more words count i l few small is low =
-    let word = slice_index words i in
-    let next : i + 1 ≡ suc i = omega arith in
-    let ones : count_ones word ≤ 2 + 2 * length words = ones-le (2 + 2 * length words) word (small_at words i l small) in
-    (ap (λ k. k + count_ones word) is ∙ sym (told_one_more (length words) i word words refl (small_at words i l small)) ∙ ap (λ j. length (told_below (length words) words j)) (sym next), omega (arith, ones, few, low))
 
 pub picked : (words : List ℕ) (number node from k more : ℕ) (o : Option Event) → number < length words → from ≡ number → node ≡ number → All (λ w. w < 2 ^ (2 + 2 * length words)) words → k ≡ length (told_below (length words) words number) + more
     → more < count_ones (slice_index words from) → o ≡ slice_get (told_at (length words) node (slice_index words from)) more → o ≡ slice_get (told_events words) k

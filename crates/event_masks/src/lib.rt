@@ -5,5 +5,6 @@
 #![tactic(auto)]
 
 mod masks;
+mod words;
 
-pub use masks::{choose, count_told, pick};
+pub use words::EventWords;

@@ -13,7 +13,7 @@ use Rattle.node_meaning.specs.Tallies.{Counts, Tally}
 use Rattle.still_meaning.specs.Stills.{GoesThrough, IsStill, StillShown, tallies}
 
 -- what stands beside a run of b stands beside it by the setup and the code of a
-beside_of : (a b : StillShown) (g h : World) (xs ys : ℕ → Tally) (es : List Entry) → b.setup ≡ a.setup → b.code ≡ a.code → RunsBeside (Counts b.setup b.code) b.setup g xs es h ys → RunsBeside (Counts a.setup a.code) a.setup g xs es h ys
+pub beside_of : (a b : StillShown) (g h : World) (xs ys : ℕ → Tally) (es : List Entry) → b.setup ≡ a.setup → b.code ≡ a.code → RunsBeside (Counts b.setup b.code) b.setup g xs es h ys → RunsBeside (Counts a.setup a.code) a.setup g xs es h ys
 beside_of a b g h xs ys es setup code r =
     subst (λ k. RunsBeside (Counts a.setup k) a.setup g xs es h ys) code (subst (λ (s : Setup). RunsBeside (Counts s b.code) s g xs es h ys) setup r)
 

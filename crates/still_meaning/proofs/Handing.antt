@@ -82,12 +82,12 @@ place_one t k One One h = (omega arith, refl)
 place_one t k Zero One h = absurd (omega arith)
 place_one t k One Zero h = absurd (omega arith)
 
-on_it : (f t : ℕ) (c : Chan) (m : Message) → on_wire f t c m ≡ true → (m.from ≡ f) × (m.to ≡ t) × (m.chan ≡ c)
+pub on_it : (f t : ℕ) (c : Chan) (m : Message) → on_wire f t c m ≡ true → (m.from ≡ f) × (m.to ≡ t) × (m.chan ≡ c)
 on_it f t c m h =
     let both : (nat_eq m.from f && nat_eq m.to t) ≡ true = and_left (nat_eq m.from f && nat_eq m.to t) (chan_eq m.chan c) h in
     (eqb-true m.from f (and_left (nat_eq m.from f) (nat_eq m.to t) both), eqb-true m.to t (and_right (nat_eq m.from f) (nat_eq m.to t) both), chan_eq-true m.chan c (and_right (nat_eq m.from f && nat_eq m.to t) (chan_eq m.chan c) h))
 
-off_it : (f t : ℕ) (c : Chan) (m : Message) → on_wire f t c m ≡ false → ((m.from ≡ f) × (m.to ≡ t) × (m.chan ≡ c)) → ⊥
+pub off_it : (f t : ℕ) (c : Chan) (m : Message) → on_wire f t c m ≡ false → ((m.from ≡ f) × (m.to ≡ t) × (m.chan ≡ c)) → ⊥
 off_it f t c m h same =
     let yes : on_wire m.from m.to m.chan m ≡ true = rw (nat_eq_refl m.from, nat_eq_refl m.to, chan_eq_refl m.chan) refl in
     let no : on_wire m.from m.to m.chan m ≡ false = ap (λ k. on_wire k m.to m.chan m) same.0 ∙ ap (λ k. on_wire f k m.chan m) same.1 ∙ ap (λ (d : Chan). on_wire f t d m) same.2 ∙ h in

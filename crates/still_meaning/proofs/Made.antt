@@ -34,7 +34,8 @@ node_is i (act.Fault store block) = refl
 node_is i (act.Redelivered kind block from) = refl
 node_is i (act.Delivered kind block from chan number) = refl
 
-taken_at : (i : ℕ) (a : Act) (f : ℕ) (c : Chan) → takes_from a f c ≡ true → event_at i a ≡ event.Deliver i f c
+-- an event that takes a message from a wire is its delivery
+pub taken_at : (i : ℕ) (a : Act) (f : ℕ) (c : Chan) → takes_from a f c ≡ true → event_at i a ≡ event.Deliver i f c
 taken_at i (act.Delivered kind block from chan number) f c h =
     let at : f ≡ from = eqb-true f from (and_left (nat_eq f from) (chan_eq c chan) h) in
     let on : c ≡ chan = chan_eq-true c chan (and_right (nat_eq f from) (chan_eq c chan) h) in

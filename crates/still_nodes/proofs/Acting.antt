@@ -1,12 +1,10 @@
 -- One node makes an event: what becomes of all nodes, and of what is on the way.
-use Rattle.std.proofs.Common.{◌≡◌, ◌≢◌, ◌∙◌, ℕ, ◌-◌, ◌<◌, Bool, true, false, nat_eq, if◌then◌else◌, List, [], ◌∷◌, ◌++◌, ◌⊎◌, Option, Some, None, Result, Ok, Err, length, length-append, get_or, refl, ap, sym, subst, arith, inl, inr}
+use Rattle.std.proofs.Common.{◌≡◌, ◌≢◌, ◌∙◌, ℕ, ◌-◌, ◌<◌, Bool, true, false, if◌then◌else◌, List, [], ◌∷◌, ◌++◌, ◌⊎◌, Option, Some, None, Result, Ok, Err, length, length-append, get_or, refl, ap, sym, subst, arith, inl, inr}
 use Rattle.std.specs.Prelude.{OnErr, OnOk, option_to_list, slice_get, slice_set}
 use Rattle.std.specs.List.{slice_index_or}
-use Rattle.std.proofs.lemmas.Bool.{cases_eq, eqb-true}
+use Rattle.std.proofs.lemmas.Bool.{cases_eq}
 use Rattle.std.proofs.lemmas.List.{length-set}
 use Rattle.std.proofs.lemmas.Option.{same_Some, slice_get_within}
-use Rattle.tw_base.specs.declared.entry.Act.{Act}
-use Rattle.tw_base.specs.declared.entry.Act.TheVariants as act
 use Rattle.tw_base.specs.declared.entry.Entry.{Entry}
 use Rattle.tw_base.specs.declared.entry.Event.{Event}
 use Rattle.tw_base.specs.declared.entry.Event.TheVariants as event
@@ -14,16 +12,15 @@ use Rattle.tw_base.specs.declared.memory.Memory.{Memory}
 use Rattle.tw_base.specs.declared.message.Chan.{Chan}
 use Rattle.tw_base.specs.declared.message.Chan.TheVariants.{Zero, One}
 use Rattle.tw_base.specs.declared.message.Message.{Message}
-use Rattle.dsm_runs.specs.Messages.{chan_eq, place}
+use Rattle.dsm_runs.specs.Messages.{place}
 use Rattle.dsm_runs.specs.Setups.{Setup}
-use Rattle.dsm_runs.specs.Worlds.{Runs, event_at, takes_from}
-use Rattle.dsm_runs.proofs.Lists.{and_left, and_right, chan_eq-true}
+use Rattle.dsm_runs.specs.Worlds.{Runs, takes_from}
 use Rattle.node_acts.proofs.Sparing.{tally_same}
 use Rattle.node_meaning.specs.Nodes.{Shown, front_at, onto, tally_of, test_of}
 use Rattle.still_meaning.specs.Laws.{IsFrontOf, node_of}
 use Rattle.still_meaning.specs.Stills.{GoesThrough, IsSpread, IsWhole, Passes, StillShown, flight, front_of, row_at, unpushed}
 use Rattle.still_meaning.proofs.Going.{through_more}
-use Rattle.still_meaning.proofs.Made.{made_through}
+use Rattle.still_meaning.proofs.Made.{made_through, taken_at}
 use Rattle.still_meaning.proofs.Passing.{passes_still, passes_through, set_here, set_other}
 use Rattle.still_nodes.proofs.Fronts.{StaysAs, one_stays}
 use Rattle.still_nodes.proofs.Lists.{at_end, set_as, set_twice}
@@ -99,22 +96,6 @@ acted old ready new was mid now e entry room m same put last = record {
       ∙ ap (λ (x : Entry). was ++ x ∷ []) (same_Some entry m.makes.entry (sym last ∙ last_is ready new e m));
 }
 
--- an event that takes a message from a wire is its delivery
-taken_event : (k : ℕ) (x : Act) (f : ℕ) (c : Chan) → takes_from x f c ≡ true → event_at k x ≡ event.Deliver k f c
-taken_event k (act.Delivered kind block from chan number) f c h =
-    let at : f ≡ from = eqb-true f from (and_left (nat_eq f from) (chan_eq c chan) h) in
-    let on : c ≡ chan = chan_eq-true c chan (and_right (nat_eq f from) (chan_eq c chan) h) in
-    ap (λ j. event.Deliver k j chan) (sym at) ∙ ap (λ (d : Chan). event.Deliver k f d) (sym on)
-taken_event k (act.Load address value) f c h = absurd cc
-taken_event k (act.Store address value) f c h = absurd cc
-taken_event k (act.Faa address value sum) f c h = absurd cc
-taken_event k (act.Print value) f c h = absurd cc
-taken_event k act.Halt f c h = absurd cc
-taken_event k (act.Trapped why) f c h = absurd cc
-taken_event k act.Step f c h = absurd cc
-taken_event k (act.Fault store block) f c h = absurd cc
-taken_event k (act.Redelivered kind block from) f c h = absurd cc
-
 -- What a node keeps of a wire stays, but for the message that the event delivers.
 kept : (old ready new : Shown) (e : Event) (i f : ℕ) (c : Chan) → MakesRoom old ready → NodeMakes ready new e → node_of e ≡ i →
     e ≢ event.Deliver i f c → front_at new f c ≡ front_at old f c
@@ -123,7 +104,7 @@ kept old ready new e i f c room made node d = go (takes_from made.makes.entry.ac
     go : (b : Bool) → takes_from made.makes.entry.act f c ≡ b → front_at new f c ≡ front_at old f c
     go true h =
         let is : e ≡ event.Deliver made.makes.entry.node f c = sym made.makes.tells
-        ∙ taken_event made.makes.entry.node made.makes.entry.act f c h in
+        ∙ taken_at made.makes.entry.node made.makes.entry.act f c h in
         let at : made.makes.entry.node ≡ i = sym (ap (λ (v : Event). node_of v) is) ∙ node in
         absurd (d (is ∙ ap (λ k. event.Deliver k f c) at))
     go false h =

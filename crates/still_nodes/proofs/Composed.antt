@@ -1,19 +1,11 @@
 -- Events after messages were handed over, and messages that are handed over after events.
-use Rattle.std.proofs.Common.{◌≡◌, ◌∙◌, ℕ, List, [], ◌++◌, ap, sym, subst, append-nil}
+use Rattle.std.proofs.Common.{◌∙◌, ℕ, List, [], ◌++◌, ap, sym, subst, append-nil}
 use Rattle.tw_base.specs.declared.entry.Entry.{Entry}
 use Rattle.dsm_runs.specs.Beside.{RunsBeside}
-use Rattle.dsm_runs.specs.Setups.{Setup}
 use Rattle.dsm_runs.specs.Worlds.{Runs, World}
-use Rattle.handler_code.specs.declared.code.Code.{Code}
 use Rattle.node_meaning.specs.Tallies.{Counts, Tally}
+use Rattle.still_meaning.proofs.Going.{beside_of}
 use Rattle.still_meaning.specs.Stills.{GoesThrough, StillShown, tallies}
-
--- what stands beside a run by this setup and code stands beside it by equal ones
-beside_same : (s s2 : Setup) (code code2 : Code) (g h : World) (xs ys : ℕ → Tally) (es : List Entry) → s2 ≡ s → code2 ≡ code →
-    RunsBeside (Counts s2 code2) s2 g xs es h ys → RunsBeside (Counts s code) s g xs es h ys
-beside_same s s2 code code2 g h xs ys es setup same r =
-    subst (λ (k : Code). RunsBeside (Counts s k) s g xs es h ys) same
-    (subst (λ (u : Setup). RunsBeside (Counts u code2) u g xs es h ys) setup r)
 
 -- nothing was made before these events
 pub after_none : (a b c : StillShown) (es : List Entry) (Ran : World → List Entry → World → Type 0) →
@@ -25,7 +17,7 @@ after_none a b c es Ran x y = record {
   ran = λ g s.
       let p = x.ran g s in
       let q = y.ran p.0 p.2 in
-      let beside = beside_same a.setup b.setup a.code b.code p.0 q.0 (tallies b) (tallies c) es x.same_setup x.same_code q.3 in
+      let beside = beside_of a b p.0 q.0 (tallies b) (tallies c) es x.same_setup x.same_code q.3 in
       let at : RunsBeside (Counts a.setup a.code) a.setup p.0 (tallies a) es q.0 (tallies c) =
       subst (λ (xs : ℕ → Tally). RunsBeside (Counts a.setup a.code) a.setup p.0 xs es q.0 (tallies c)) (sym p.3.1) beside in (
         q.0,

@@ -1,19 +1,19 @@
 -- A message is taken out of a node, kept by a node, or put into a row.
-use Rattle.std.proofs.Common.{◌≡◌, ◌∙◌, ◌≢◌, ℕ, ◌<◌, Bool, true, false, ◌&&◌, nat_eq, List, [], ◌∷◌, ◌++◌, Option, Some, None, length, refl, ap, sym, subst, arith, inl, inr, append-nil}
+use Rattle.std.proofs.Common.{◌≡◌, ◌∙◌, ◌≢◌, ℕ, ◌<◌, Bool, true, false, List, [], ◌∷◌, ◌++◌, Option, Some, None, length, refl, ap, sym, subst, arith, inl, inr, append-nil}
 use Rattle.std.specs.Prelude.{option_to_list, slice_get, slice_set}
 use Rattle.std.specs.List.{slice_index_or}
-use Rattle.std.proofs.lemmas.Bool.{cases_eq, eqb-true}
+use Rattle.std.proofs.lemmas.Bool.{cases_eq}
 use Rattle.std.proofs.lemmas.List.{get_or-set_other, get_or-set_same, length-set}
 use Rattle.std.proofs.lemmas.Option.{same_Some, slice_get_within}
 use Rattle.tw_base.specs.Lists.{Each}
 use Rattle.tw_base.specs.declared.message.Chan.{Chan}
 use Rattle.tw_base.specs.declared.message.Chan.TheVariants.{Zero, One}
 use Rattle.tw_base.specs.declared.message.Message.{Message}
-use Rattle.dsm_runs.specs.Messages.{chan_eq, on_wire, place}
-use Rattle.dsm_runs.proofs.Lists.{and_left, and_right, chan_eq-true, chan_eq_refl, nat_eq_refl}
+use Rattle.dsm_runs.specs.Messages.{on_wire, place}
+use Rattle.dsm_runs.proofs.Lists.{chan_eq_refl, nat_eq_refl}
 use Rattle.node_meaning.specs.Nodes.{Shown, front_at, onto, tally_of}
 use Rattle.node_meaning.specs.Stands.{StandsAsBefore}
-use Rattle.still_meaning.proofs.Handing.{place_one}
+use Rattle.still_meaning.proofs.Handing.{off_it, on_it, place_one}
 use Rattle.still_meaning.proofs.Passing.{set_here, set_other}
 use Rattle.still_meaning.specs.Stills.{IsAsBefore, StillShown, front_of, unpushed}
 use Rattle.still_nodes.specs.Parts.{Rows}
@@ -22,23 +22,8 @@ use Rattle.still_nodes.specs.Handing.{Accepts, Pops, queue_at, waiting_of, with_
 
 -- ---- wires
 
-pub on_it : (f t : ℕ) (c : Chan) (m : Message) → on_wire f t c m ≡ true → (m.from ≡ f) × (m.to ≡ t) × (m.chan ≡ c)
-on_it f t c m h =
-    let both : (nat_eq m.from f && nat_eq m.to t) ≡ true = and_left (nat_eq m.from f && nat_eq m.to t) (chan_eq m.chan c) h in (
-      eqb-true m.from f (and_left (nat_eq m.from f) (nat_eq m.to t) both),
-      eqb-true m.to t (and_right (nat_eq m.from f) (nat_eq m.to t) both),
-      chan_eq-true m.chan c (and_right (nat_eq m.from f && nat_eq m.to t) (chan_eq m.chan c) h),
-    )
-
 pub on_its_own : (m : Message) → on_wire m.from m.to m.chan m ≡ true
 on_its_own m = rw (nat_eq_refl m.from, nat_eq_refl m.to, chan_eq_refl m.chan) refl
-
-pub off_it : (f t : ℕ) (c : Chan) (m : Message) → on_wire f t c m ≡ false → ((m.from ≡ f) × (m.to ≡ t) × (m.chan ≡ c)) → ⊥
-off_it f t c m h same =
-    let yes : on_wire m.from m.to m.chan m ≡ true = on_its_own m in
-    let no : on_wire m.from m.to m.chan m ≡ false = ap (λ k. on_wire k m.to m.chan m) same.0
-    ∙ ap (λ k. on_wire f k m.chan m) same.1 ∙ ap (λ (d : Chan). on_wire f t d m) same.2 ∙ h in
-    absurd (cc (yes, no))
 
 -- what is there of one message
 pub onto_one : (f t : ℕ) (c : Chan) (m : Message) → on_wire f t c m ≡ true → onto f t c (m ∷ []) ≡ m ∷ []

@@ -11,11 +11,11 @@ use Rattle.dsm_runs.specs.Messages.{on_wire, place}
 use Rattle.dsm_runs.specs.Setups.{Setup}
 use Rattle.node_meaning.specs.Nodes.{Shown, front_at, onto, accepted_at}
 use Rattle.node_meaning.specs.Stands.{IsFit}
-use Rattle.still_meaning.proofs.Handing.{next_number, popped, put_behind, put_first, row_put}
+use Rattle.still_meaning.proofs.Handing.{next_number, on_it, popped, put_behind, put_first, row_put}
 use Rattle.still_meaning.specs.Laws.{holding}
 use Rattle.still_meaning.specs.Stills.{IsNodeAt, IsWhole, Passes, StillShown, flight, front_of, row_at, unpushed}
 use Rattle.still_nodes.specs.Handing.{Accepts, HandsTo, IsFilled, IsFirstOut, LeavesOthers, MayHandOver, Pops, queue_at, waiting_of, waits_at, with_queue, MayAccept}
-use Rattle.still_nodes.proofs.Fronts.{NodesStay, accept_fronts, accept_stays, accept_waits, count_same, get_here, get_other, no_front, nodes_more, on_it, on_its_own, one_stays, onto_more, onto_none, pop_fronts, pop_stays, pop_waits, rows_count, rows_places, small_place, unpushed_is}
+use Rattle.still_nodes.proofs.Fronts.{NodesStay, accept_fronts, accept_stays, accept_waits, count_same, get_here, get_other, no_front, nodes_more, on_its_own, one_stays, onto_more, onto_none, pop_fronts, pop_stays, pop_waits, rows_count, rows_places, small_place, unpushed_is}
 use Rattle.still_nodes.proofs.Places.{node_there}
 use Rattle.still_nodes.proofs.Lists.{each_get, first_rest, left_empty, right_empty}
 

@@ -1,5 +1,5 @@
 -- Words of tests, a word a node.
-use Rattle.std.proofs.Common.{◌≡◌, ◌∙◌, ℕ, ◌+◌, ◌*◌, ◌^◌, ◌<◌, List, [], ◌∷◌, ◌++◌, Some, length, get_or, length-append, refl, ap, sym, subst, arith, inl, inr}
+use Rattle.std.proofs.Common.{◌≡◌, ◌∙◌, ℕ, ◌+◌, ◌*◌, ◌^◌, ◌<◌, ◌≤◌, List, [], ◌∷◌, ◌++◌, Some, length, get_or, length-append, refl, ap, sym, subst, arith, inl, inr}
 use Rattle.std.specs.Prelude.{slice_get, slice_index}
 use Rattle.std.proofs.lemmas.Bool.{cases_eq}
 use Rattle.std.proofs.lemmas.List.{get_or_append_left, get_or_push}
@@ -9,7 +9,7 @@ use Rattle.dsm_runs.specs.Setups.{Setup}
 use Rattle.dsm_runs.specs.Worlds.{World}
 use Rattle.node_parts.specs.Truths.{truths}
 use Rattle.node_meaning.specs.Nodes.{Shown, node_tests}
-use Rattle.still_meaning.specs.Stills.{IsStill, StillShown}
+use Rattle.still_meaning.specs.Stills.{IsStill, IsWhole, StillShown}
 use Rattle.still_nodes.proofs.Lists.{present}
 use Rattle.still_nodes.specs.Telling.{AreWordsOf, IsWordOf, Tells}
 
@@ -36,6 +36,14 @@ one_word_more nodes words i n w are l is word = record {
 
 -- ---- all nodes
 
+-- There are few words.
+pub few_words : (s : StillShown) → IsWhole s → (nodes : List Shown) (words : List ℕ) → nodes ≡ s.nodes →
+    AreWordsOf nodes words (length nodes) → length words ≤ 8
+few_words s w nodes words same are =
+    let most = w.setup.limits.nodes in
+    let size : length nodes ≡ length s.nodes = ap (λ (ns : List Shown). length ns) same in
+    omega (arith, most, are.count, size, w.still.count)
+
 -- The words of all nodes tell their tests.
 pub words_tell : (s : StillShown) (g : World) (words : List ℕ) → IsStill s g → AreWordsOf s.nodes words (length s.nodes) →
     Tells s words
@@ -56,3 +64,10 @@ words_tell s g words still are = record {
         let size : n.setup.shape.nodes ≡ length words = ap (λ (u : Setup). u.shape.nodes) (still.nodes i n there).setup
         ∙ sym (are.count ∙ still.count) in
         subst (λ k. get_or words i 0 < 2 ^ (2 + 2 * k)) size (are.each i n (slice_get_within s.nodes i n there) there).1
+
+-- the same words tell them
+pub words_kept : (s : StillShown) → IsWhole s → (nodes : List Shown) (old new : List ℕ) → nodes ≡ s.nodes →
+    AreWordsOf nodes old (length nodes) → new ≡ old → Tells s new
+words_kept s w nodes old new same are is =
+    subst (λ (ws : List ℕ). Tells s ws) (sym is)
+    (words_tell s w.state old w.still (subst (λ (ns : List Shown). AreWordsOf ns old (length ns)) same are))

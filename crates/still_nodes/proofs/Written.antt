@@ -2,7 +2,9 @@
 use Rattle.std.proofs.Common.{◌≡◌, ◌∙◌, ℕ, ◌+◌, ◌*◌, ◌<◌, ◌^◌, ◌↔◌, Bool, false, List, [], ◌∷◌, ◌++◌, Option, Some, None, length, get_or, refl, ap, sym, subst}
 use Rattle.std.specs.Prelude.{IsTrue, is_some, option_to_list, slice_get, slice_set}
 use Rattle.std.specs.List.{slice_index_or}
-use Rattle.std.proofs.lemmas.List.{set-get_or}
+use Rattle.std.specs.Global.{Vec}
+use Rattle.std.specs.Vec.{with_items}
+use Rattle.std.proofs.lemmas.List.{set-get_or, with_items_is}
 use Rattle.std.proofs.lemmas.Option.{same_Some}
 use Rattle.tw_base.specs.declared.entry.Entry.{Entry}
 use Rattle.tw_base.specs.declared.message.Chan.{Chan}
@@ -16,7 +18,7 @@ use Rattle.still_meaning.specs.Stills.{IsWhole, Passes, StillShown, flight, fron
 use Rattle.still_nodes.specs.Handing.{Accepts, HandsOver, HandsTo, IsFirstOut, LeavesOthers, MayAccept, MayHandOver, Pops, Refills, queue_at, waiting_of, waits_at, with_queue}
 use Rattle.still_nodes.specs.Parts.{Rows, all_of}
 use Rattle.still_nodes.specs.Telling.{IsWordAt}
-use Rattle.still_nodes.proofs.Fronts.{count_same}
+use Rattle.still_nodes.proofs.Fronts.{count_same, rows_count}
 use Rattle.still_nodes.proofs.Lists.{no_first}
 use Rattle.still_nodes.proofs.Handed.{whole_after}
 use Rattle.still_nodes.proofs.Moving.{behind_count, behind_others, behind_out, behind_passes, behind_places, from_is, in_nodes, is_node, may_hand_over, over_others, over_out, over_passes, popped_is_first, to_within}
@@ -223,3 +225,51 @@ next_is xs ys r m popped is = popped ∙ ap (λ (o : Option Message). option_to_
 -- there was none
 pub none_is : (xs ys : List Message) (r : Option Message) → xs ≡ option_to_list r ++ ys → r ≡ None → xs ≡ ys
 none_is xs ys r popped is = popped ∙ ap (λ (o : Option Message). option_to_list o ++ ys) is
+
+-- ---- the parts are written back
+
+module _ (s : Setup) (code : Code) (nodes : Vec Shown) (rows : Vec (List (List Message))) (taken : List Entry)
+    (w : IsWhole (all_of s code nodes.items rows.items taken)) (f t : ℕ) (c : Chan) (n : Shown) (r : Option Message)
+    (rows1 rows2 : Rows) (x : FollowsFirst s nodes.items rows.items rows2 f t c n r) (many : length rows1 ≡ rows.len)
+    (is : rows1 ≡ rows.items) where
+  rows_back : (with_items rows rows2).items ≡ rows2
+  rows_back =
+      with_items_is rows rows2
+      (ap (λ (rs : Rows). length rs) x.others ∙ rows_count rows.items f t c (queue_at rows2 f t c)
+      ∙ ap (λ (rs : Rows). length rs) (sym is) ∙ many)
+
+  -- what followed was kept
+  pub kept_back : (m : Message) (ns1 ns2 : List Shown) → r ≡ Some m → length ns1 ≡ nodes.len → ns1 ≡ nodes.items →
+      Accepts ns1 ns2 m →
+      IsWhole (all_of s code (with_items nodes ns2).items (with_items rows rows2).items taken)
+      × Refills (all_of s code nodes.items rows.items taken)
+      (all_of s code (with_items nodes ns2).items (with_items rows rows2).items taken) f t c
+  kept_back m ns1 ns2 some size same accepts =
+      let first : queue_at rows.items f t c ≡ m ∷ queue_at rows2 f t c =
+      next_is (queue_at rows.items f t c) (queue_at rows2 f t c) r m x.popped some in
+      let back : (with_items nodes ns2).items ≡ ns2 = with_items_is nodes ns2 (accepts_count ns1 ns2 m accepts ∙ size) in
+      let done =
+      was_kept s code nodes.items rows.items taken w f t c x.from x.to n x.there x.free rows2 x.others m ns2 first
+      (subst (λ (ns : List Shown). Accepts ns ns2 m) same accepts) in (
+        subst (λ (ns : List Shown). IsWhole (all_of s code ns (with_items rows rows2).items taken)) (sym back)
+            (subst (λ (rs : Rows). IsWhole (all_of s code ns2 rs taken)) (sym rows_back) done.0),
+        subst (λ (ns : List Shown). Refills (all_of s code nodes.items rows.items taken)
+            (all_of s code ns (with_items rows rows2).items taken) f t c) (sym back)
+            (subst (λ (rs : Rows). Refills (all_of s code nodes.items rows.items taken) (all_of s code ns2 rs taken) f t c)
+            (sym rows_back) done.1),
+      )
+
+  -- nothing followed
+  pub stayed_back : r ≡ None →
+      IsWhole (all_of s code nodes.items (with_items rows rows2).items taken)
+      × Refills (all_of s code nodes.items rows.items taken)
+      (all_of s code nodes.items (with_items rows rows2).items taken) f t c
+  stayed_back none =
+      let done =
+      stayed s code nodes.items rows.items taken w f t c x.from x.to n x.there x.free rows2 x.others (sym none ∙ x.first)
+      (none_is (queue_at rows.items f t c) (queue_at rows2 f t c) r x.popped none) in
+      let back : (with_items rows rows2).items ≡ rows.items = rows_back ∙ done.0 in (
+        subst (λ (rs : Rows). IsWhole (all_of s code nodes.items rs taken)) (sym back) w,
+        subst (λ (rs : Rows). Refills (all_of s code nodes.items rows.items taken) (all_of s code nodes.items rs taken) f t c)
+            (sym back) done.1,
+      )

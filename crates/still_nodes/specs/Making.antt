@@ -10,7 +10,7 @@ use Rattle.node_meaning.specs.Nodes.{Shown, test_of}
 use Rattle.node_meaning.specs.Stands.{Makes, StandsAsBefore}
 use Rattle.still_meaning.specs.Laws.{IsFrontOf, node_of}
 use Rattle.still_meaning.specs.Stills.{GoesThrough, Passes, StillShown}
-use Rattle.still_nodes.specs.Handing.{AreFilled, IsFilled, waits_at}
+use Rattle.still_nodes.specs.Handing.{IsFilled, waits_at}
 
 -- its nodes are of the machine
 abbrev pub IsWithin : ℕ → Event → Type 0

@@ -10,7 +10,7 @@ ghost use Rattle.still_nodes.specs.Making.{MayMake};
 ghost use Rattle.still_nodes.specs.Telling.{Tells};
 
 use crate::Still;
-use event_masks::choose;
+use event_masks::EventWords;
 use std::alloc::Global;
 use tw_base::{Chan, Event, Memory, NodeId};
 
@@ -69,10 +69,10 @@ impl<'a> Still<'a> {
 
     /// Makes these events in their order up to the first that is not enabled, and answers how many. After an Err those that
     /// were made stand.
-    fn make_all(&mut self, events: &[Event], words: &mut Vec<u32>) -> Result<u32, Memory>
+    fn make_all(&mut self, events: &[Event], words: &mut EventWords) -> Result<u32, Memory>
         requires few { length events.now < 2 ^ 32 }
         requires spread { IsSpread self.old }
-        requires told { Tells self.old words.old.items }
+        requires told { Tells self.old words.old }
         ensures made { IfOk result (λ k. Drives self.old self.new events.now k) }
         ensures within { IfOk result (λ k. k ≤ length events.now) }
         ensures stopped { IfOk result (λ k. (e : Event) → slice_get events.now k ≡ Some e → IsDisabled self.new e) }
@@ -104,7 +104,7 @@ impl<'a> Still<'a> {
     }
 
     /// The event that a schedule takes next, where `turn` events were taken before. None exactly where none is enabled.
-    fn next_event(&self, words: &[u32], turn: u32, stride: u32) -> Option<Event>
+    fn next_event(&self, words: &EventWords, turn: u32, stride: u32) -> Option<Event>
         requires spread { IsSpread self.now }
         requires told { Tells self.now words.now }
         ensures chosen { (h : World) → IsStill self.now h → result ≡ chosen stride turn (enabled_events self.now.setup h) }
@@ -112,16 +112,16 @@ impl<'a> Still<'a> {
         ensures rest { IfNone result (IsAtRest self.now) }
     {
         let _shape = self.setup.shape();
-        choose(words, turn, stride)
+        words.choose(turn, stride)
     }
 
     /// Makes the events of a schedule from its start to its end, where no event is enabled. After an Err those that were made
     /// stand.
     ///
     /// Want of memory is the only error: a run has far fewer than 2^32 events.
-    fn follow(&mut self, words: &mut Vec<u32>, stride: u32) -> Result<(), Memory>
+    fn follow(&mut self, words: &mut EventWords, stride: u32) -> Result<(), Memory>
         requires spread { IsSpread self.old }
-        requires told { Tells self.old words.old.items }
+        requires told { Tells self.old words.old }
         ensures settled { OnOk result (HasSettled self.old self.new stride) }
         ensures rest { OnOk result (IsAtRest self.new) }
         ensures err { OnErr result (HasFollowed self.old self.new stride) }

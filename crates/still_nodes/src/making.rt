@@ -7,6 +7,7 @@ ghost use Rattle.still_nodes.specs.Telling.{Tells};
 
 use crate::still::Still;
 use crate::taken::TakenEntries;
+use event_masks::EventWords;
 use node_core::Node;
 use tw_base::{Event, Memory, NodeId};
 
@@ -86,13 +87,13 @@ impl<'a> Still<'a> {
     }
 
     /// Makes an event whose test is true, and hands out what it sent. After an Err the event may have been made.
-    pub(crate) fn make(&mut self, event: Event, words: &mut Vec<u32>) -> Result<(), Memory>
+    pub(crate) fn make(&mut self, event: Event, words: &mut EventWords) -> Result<(), Memory>
         requires may { MayMake self.old event }
         requires spread { IsSpread self.old }
-        requires told { Tells self.old words.old.items }
+        requires told { Tells self.old words.old }
         ensures made { OnOk result (Made self.old self.new event) }
         ensures spread { OnOk result (IsSpread self.new) }
-        ensures told { OnOk result (Tells self.new words.new.items) }
+        ensures told { OnOk result (Tells self.new words.new) }
         ensures err { OnErr result (MadeAtMost self.old self.new event) }
     {
         let node = node_of(&event);

@@ -5,6 +5,7 @@ ghost use Rattle.still_nodes.specs.Telling.{TellsBut};
 
 use crate::handing::{accept, first_out, hand_over, is_clear, put_behind, take_first, take_next};
 use crate::still::Still;
+use event_masks::EventWords;
 use tw_base::{Chan, Memory, NodeId};
 
 impl<'a> Still<'a> {
@@ -46,10 +47,10 @@ impl<'a> Still<'a> {
 
     /// Hands out the message that has waited longest at a node. Its receiver keeps it where nothing of the wire is on its way
     /// to it, and else it is put behind what is. True where there was one. After an Err all is as before.
-    pub(crate) fn hand_one(&mut self, node: NodeId, words: &mut Vec<u32>) -> Result<bool, Memory>
+    pub(crate) fn hand_one(&mut self, node: NodeId, words: &mut EventWords) -> Result<bool, Memory>
         requires node { node < self.old.setup.shape.nodes }
-        requires told { TellsBut self.old node words.old.items }
-        ensures told { TellsBut self.new node words.new.items }
+        requires told { TellsBut self.old node words.old }
+        ensures told { TellsBut self.new node words.new }
         ensures passes { Passes self.old self.new }
         ensures others { LeavesOthers self.old self.new node }
         ensures one { IfOk result (λ more. OneOf more (waits_at self.old node) (waits_at self.new node)) }
@@ -58,15 +59,15 @@ impl<'a> Still<'a> {
         let Some(to) = self.hand_out(node)? else {
             return Ok(false);
         };
-        words[usize::from(to.get())] = self.tests_of(to);
+        words.set(to, self.tests_of(to));
         Ok(true)
     }
 
     /// Hands out all that waits at a node.
-    pub(crate) fn spread(&mut self, node: NodeId, words: &mut Vec<u32>) -> Result<(), Memory>
+    pub(crate) fn spread(&mut self, node: NodeId, words: &mut EventWords) -> Result<(), Memory>
         requires node { node < self.old.setup.shape.nodes }
-        requires told { TellsBut self.old node words.old.items }
-        ensures told { TellsBut self.new node words.new.items }
+        requires told { TellsBut self.old node words.old }
+        ensures told { TellsBut self.new node words.new }
         ensures passes { Passes self.old self.new }
         ensures others { LeavesOthers self.old self.new node }
         ensures out { OnOk result (waits_at self.new node ≡ []) }

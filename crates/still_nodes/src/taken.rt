@@ -20,7 +20,7 @@ impl Model for TakenEntries {
 }
 
 impl TakenEntries {
-    ghost use Rattle.std.specs.Prelude.{vec_capacity, vec_len};
+    ghost use Rattle.std.specs.Prelude.{vec_capacity};
 
     /// No entry.
     pub(crate) fn new(alloc: Global) -> Self

@@ -2,6 +2,7 @@ ghost use Rattle.std.specs.Prelude.{◌<◌, length, IfOk};
 ghost use Rattle.still_nodes.specs.Telling.{AreWordsOf, IsWordAt, Tells, TellsBut};
 
 use crate::still::Still;
+use event_masks::EventWords;
 use node_core::Node;
 use std::alloc::Global;
 use tw_base::{Memory, NodeId};
@@ -19,10 +20,11 @@ fn words_of(alloc: Global, nodes: &[Node<'_>]) -> Result<Vec<u32>, Memory>
 
 impl<'a> Still<'a> {
     /// The tests of all nodes, a word a node.
-    pub(crate) fn words(&self, alloc: Global) -> Result<Vec<u32>, Memory>
-        ensures { IfOk result (λ words. Tells self.now words.items) }
+    pub(crate) fn words(&self, alloc: Global) -> Result<EventWords, Memory>
+        ensures { IfOk result (λ words. Tells self.now words) }
     {
-        words_of(alloc, &self.nodes)
+        let words = words_of(alloc, &self.nodes)?;
+        EventWords::of(alloc, words)
     }
 
     /// The tests of a node, as the bits of a word.
@@ -34,11 +36,11 @@ impl<'a> Still<'a> {
     }
 
     /// Writes the tests of a node into its word.
-    pub(crate) fn tell(&self, node: NodeId, words: &mut Vec<u32>)
+    pub(crate) fn tell(&self, node: NodeId, words: &mut EventWords)
         requires node { node < self.now.setup.shape.nodes }
-        requires told { TellsBut self.now node words.old.items }
-        ensures { Tells self.now words.new.items }
+        requires told { TellsBut self.now node words.old }
+        ensures { Tells self.now words.new }
     {
-        words[usize::from(node.get())] = self.tests_of(node);
+        words.set(node, self.tests_of(node));
     }
 }

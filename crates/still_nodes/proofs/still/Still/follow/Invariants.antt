@@ -7,5 +7,5 @@ abbrev pub invariant-loop-turn : goal.invariant-loop-turn
 invariant-loop-turn l = record {
   follows : Follows l.initial.self l.self l.stride l.turn;
   spread : IsSpread l.self;
-  told : Tells l.self l.words.items;
+  told : Tells l.self l.words;
 }

@@ -9,5 +9,5 @@ invariant-loop-event l = record {
   drives : Drives l.initial.self l.self l.events l.count;
   count : l.count ≡ l.event-index;
   spread : IsSpread l.self;
-  told : Tells l.self l.words.items;
+  told : Tells l.self l.words;
 }

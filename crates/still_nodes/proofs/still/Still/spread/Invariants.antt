@@ -7,7 +7,7 @@ use Rattle.still_nodes.proofs.still.Still.spread.Given as goal
 abbrev pub invariant-loop : goal.invariant-loop
 invariant-loop l =
     record {
-      told : TellsBut l.self l.node l.words.items;
+      told : TellsBut l.self l.node l.words;
       passes : Passes l.initial.self l.self;
       others : LeavesOthers l.initial.self l.self l.node;
     }

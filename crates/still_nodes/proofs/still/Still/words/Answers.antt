@@ -1,14 +1,15 @@
-use Rattle.std.proofs.Common.{List, length, subst}
+use Rattle.std.proofs.Common.{subst}
 use Rattle.std.proofs.lemmas.Result.{IfOk-weaker}
-use Rattle.node_meaning.specs.Nodes.{Shown}
 use Rattle.still_meaning.specs.Stills.{StillShown}
-use Rattle.still_nodes.specs.Telling.{AreWordsOf, Tells}
-use Rattle.still_nodes.proofs.Wording.{words_tell}
+use Rattle.still_nodes.specs.Telling.{Tells}
+use Rattle.still_nodes.proofs.Wording.{few_words, words_kept}
 use Rattle.still_nodes.proofs.still.Still.words.Goals as goal
 
+pub of-requires : goal.of-requires
+of-requires c = few_words _ c.self.invariant _ _ c.deref.ensures.value c.in_ok-words.ensures
+
 pub returns : goal.returns
-returns c = IfOk-weaker c.words_of.result _ _
-    (λ words are. subst (λ (s : StillShown). Tells s words.items) c.self.view_is
-    (words_tell _ c.self.invariant.state words.items c.self.invariant.still
-    (subst (λ (ns : List Shown). AreWordsOf ns words.items (length ns)) c.deref.ensures.value are)))
-    c.words_of.ensures
+returns c = IfOk-weaker c.of.result _ _
+    (λ words is. subst (λ (s : StillShown). Tells s words) c.self.view_is
+    (words_kept _ c.self.invariant _ _ words c.deref.ensures.value c.in_ok-words.ensures is))
+    c.of.ensures
