@@ -16,7 +16,7 @@ use Rattle.tw_wire.specs.Lending.{shown}
 use Rattle.tw_wire.specs.Places.{Names, place}
 use Rattle.tw_wire.specs.Wires.{AreAllEnds, AreClosed, AreEndsOf, AreNames, EndsShown}
 use Rattle.tw_wire.specs.declared.ends.Ends.{Ends}
-use Rattle.seat_meaning.specs.Opened.{AreNodesOf, AreOpened, OpenedSeatsAreStill}
+use Rattle.seat_meaning.specs.Opened.{AreOpened, OpenedSeatsAreStill}
 use Rattle.seat_meaning.specs.Seats.{IsSeated, Seated}
 use Rattle.node_seats.specs.declared.seat.Opened.{Opened}
 use Rattle.node_runtime.specs.Places.{AreOpenedBelow, seated_of}

@@ -1,9 +1,7 @@
 -- Nodes are placed and opened one after another.
-use Rattle.std.proofs.Common.{◌≡◌, ◌∙◌, ◌⊎◌, ℕ, zero, suc, ◌+◌, ◌-◌, ◌<◌, ◌≤◌, List, [], ◌∷◌, ◌++◌, Some, length, min, refl, ap, sym, subst, arith, inl}
+use Rattle.std.proofs.Common.{◌≡◌, ◌⊎◌, ℕ, zero, suc, ◌+◌, ◌-◌, ◌<◌, ◌≤◌, List, [], ◌∷◌, ◌++◌, Some, length, min, refl, ap, sym, subst, arith, inl}
 use Rattle.std.proofs.Common.{inr, length-append, zero-add}
-use Rattle.std.specs.Prelude.{map, slice_get}
-use Rattle.std.specs.Option.{option_to_list}
-use Rattle.std.proofs.lemmas.List.{length-map}
+use Rattle.std.specs.Prelude.{slice_get}
 use Rattle.std.proofs.lemmas.Option.{slice_get_within}
 use Rattle.handler_code.specs.declared.code.Code.{Code}
 use Rattle.dsm_runs.specs.Setups.{Setup}

@@ -1,13 +1,13 @@
-ghost use Rattle.std.specs.Prelude.{◌≡◌, ◌≢◌, ◌*◌, ◌^◌, ◌<◌, ◌≤◌, ◌&&◌, ◌+◌, ◌↔◌, ℕ, [], None, Ok, IsTrue, false, true, length, not, replicate, IfOk, MatchBool, OnErr, OnOk};
+ghost use Rattle.std.specs.Prelude.{◌≡◌, ◌≢◌, ◌*◌, ◌^◌, ◌<◌, ◌≤◌, ◌&&◌, ◌+◌, ◌↔◌, [], Ok, IsTrue, false, true, length, replicate, IfOk, MatchBool, OnErr, OnOk};
 ghost use Rattle.std.specs.Bool.{OnFalse, OnTrue};
 ghost use Rattle.tw_base.specs.declared.entry.Event.TheVariants as event;
 ghost use Rattle.compiled_meaning.specs.Whole.{IsCode};
-ghost use Rattle.node_meaning.specs.Nodes.{front_at, test_of};
+ghost use Rattle.node_meaning.specs.Nodes.{test_of};
 ghost use Rattle.tw_wire.specs.Lending.{shown};
 ghost use Rattle.tw_wire.specs.Places.{place};
 ghost use Rattle.tw_wire.specs.Wires.{AreEndsOf, AreUnused};
-ghost use Rattle.seat_meaning.specs.Seats.{IsNext, IsSeated};
-ghost use Rattle.node_seats.specs.Steps.{AreNotLower, HasKept, HasTried, front_in};
+ghost use Rattle.seat_meaning.specs.Seats.{IsNext, IsSeated, Seated};
+ghost use Rattle.node_seats.specs.Steps.{AreNotLower, HasKept, HasTried};
 ghost use Rattle.node_seats.specs.Turns.{Grows, GrowsAtMost, HasPushed, HasServed, is_handling, is_instruction, takes_messages};
 
 use crate::closed::Closed;
@@ -276,9 +276,10 @@ impl<'a, N: Naming, const ME: u8> Seat<'a, N, ME> {
         Ok(q)
     }
 
-    /// The node and the ends of its wires.
+    /// The seat's own node, with the ends of its wires.
     pub fn open(self) -> Opened<'a>
-        ensures { IsSeated N.setup N.code N.wires ME
+        ensures same { let parts : Seated = record { node = result.node; ends = shown result.ends; closed = result.closed } in parts ≡ self.entry }
+        ensures seated { IsSeated N.setup N.code N.wires ME
             (record { node = result.node; ends = shown result.ends; closed = result.closed }) }
     {
         let Seat {
