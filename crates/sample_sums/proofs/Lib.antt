@@ -1,0 +1,10 @@
+mod Spots
+mod OneStep
+mod Goes
+mod Nodes
+mod Acts
+mod Runs
+mod Ending
+mod Sums
+mod Texts
+mod Summaries
