@@ -14,9 +14,9 @@ use Rattle.handler_code.specs.declared.code.Code.{Code}
 use Rattle.compiled_meaning.specs.Whole.{IsCode}
 use Rattle.tempest_run.specs.declared.answer.Answer.{Answer}
 use Rattle.tempest_run.specs.Answering.{Answers, AnswersAlone, AnswersIn, IsAnswerIf, IsAnswered, TellsOfCode, TellsOfRun, check_answer, code_answer}
-use Rattle.tempest_run.specs.Answering.{has_halted, is_threaded, reads_input, refusal, report_answer, sample_answer, show_answer}
+use Rattle.tempest_run.specs.Answering.{has_halted, reads_input, refusal, report_answer, sample_answer, show_answer}
 use Rattle.tempest_run.specs.Answering.{status_of, table_answer}
-use Rattle.tempest_run.specs.Laws.{AnswerIsOne}
+use Rattle.tempest_run.specs.Laws.{AnswerIsOne, has_many_answers}
 use Rattle.tempest_run.specs.declared.status.Status.TheVariants.{Done, Unfinished}
 use Rattle.tempest_run.proofs.CallLaws.{AnswersAnswer}
 use Rattle.tempest_run.proofs.Uncounted.{counts_unseen}
@@ -72,7 +72,7 @@ one_text one p a b x y = x.tells ∙ ap (λ code. code_answer p code) (one p x.c
 
 one_about :
     RunsAreOne → CountsAreOne → CodesAreOne → (command : Command) (o : Options) (s : Setup) (a b : Answer) →
-    is_threaded command ≡ false → Answers command o s a → Answers command o s b → a ≡ b
+    has_many_answers command ≡ false → Answers command o s a → Answers command o s b → a ≡ b
 one_about one counts code Run o s a b plain x y = absurd cc
 one_about one counts code (Serial stride) o s a b plain x y = one_tale one counts s stride o a b x y
 one_about one counts code Check o s a b plain x y = x ∙ sym y
@@ -83,14 +83,14 @@ one_about one counts code (Sample k) o s a b plain x y = absurd x
 
 one_in :
     RunsAreOne → CountsAreOne → CodesAreOne → (command : Command) (o : Options) (r : Result Setup InputError) (a b : Answer) →
-    is_threaded command ≡ false → AnswersIn command o r a → AnswersIn command o r b → a ≡ b
+    has_many_answers command ≡ false → AnswersIn command o r a → AnswersIn command o r b → a ≡ b
 one_in one counts code command o (Ok s) a b plain x y = one_about one counts code command o s a b plain x y
 one_in one counts code command o (Err (Refused number reason)) a b plain x y = x ∙ sym y
 one_in one counts code command o (Err Memory) a b plain x y = absurd x
 
-one_alone : (command : Command) (a b : Answer) → is_threaded command ≡ false → AnswersAlone command a → AnswersAlone command b → a ≡ b
+one_alone : (command : Command) (a b : Answer) → has_many_answers command ≡ false → AnswersAlone command a → AnswersAlone command b → a ≡ b
 one_alone Table a b plain x y = x ∙ sym y
-one_alone (Sample k) a b plain x y = absurd cc
+one_alone (Sample k) a b plain x y = x.one ∙ sym y.one
 one_alone Run a b plain x y = absurd x
 one_alone (Serial stride) a b plain x y = absurd x
 one_alone Check a b plain x y = absurd x
@@ -99,7 +99,7 @@ one_alone Show a b plain x y = absurd x
 
 one_if :
     RunsAreOne → CountsAreOne → CodesAreOne → (reads : Bool) (command : Command) (o : Options) (text : List ℕ) (a b : Answer) →
-    is_threaded command ≡ false → IsAnswerIf reads command o text a → IsAnswerIf reads command o text b → a ≡ b
+    has_many_answers command ≡ false → IsAnswerIf reads command o text a → IsAnswerIf reads command o text b → a ≡ b
 one_if one counts code true command o text a b plain x y = one_in one counts code command o (input_of text) a b plain x y
 one_if one counts code false command o text a b plain x y = one_alone command a b plain x y
 

@@ -29,13 +29,13 @@ with-answer asked s t k h got statuses.TooLong is all = absurd is
 
 due-says : AnswersAnswer → (asked : Option Asked) (s t k h : Told) (got : List ℕ) (due : Status) (text : List ℕ) → IsDue asked s t got due text → Appends k.bytes h.bytes text → Says asked s t k h got due
 due-says answers asked s t k h got _ _ (bad_words none nothing kept) w = (none, nothing, kept, w)
-due-says answers asked s t k h got _ _ (bad_length q e long) w = (long, w)
+due-says answers asked s t k h got _ _ (bad_length q e reads long) w = (long, w)
 due-says answers asked s t k h got _ _ (answered q a e input is) w = with-answer asked s t k h got a.status (answers q got a is) (q, a, e, input, is, refl, w)
 
 ends-say : AnswersAnswer → (asked : Option Asked) (s t k h : Told) (got : List ℕ) (result : Status) → Ends asked s t k h got result → Says asked s t k h got result
 ends-say answers asked s t k h got _ (wrote due text is w) = due-says answers asked s t k h got due text is w
 ends-say answers asked s t k h got _ (write_fault due text is w rose) = (rose, (due, text, is, w))
-ends-say answers asked s t k h got _ (read_fault q e few rose kept) = (few, rose, kept)
+ends-say answers asked s t k h got _ (read_fault q e reads few rose kept) = (few, rose, kept)
 ends-say answers asked s t k h got _ (no_memory kept) = kept
 
 pub statuses_say : AnswersAnswer → StatusesSay
@@ -45,13 +45,13 @@ statuses_say answers asked s t k h result call = ends-say answers asked s t k h 
 
 none-due : (asked : Option Asked) (s t : Told) (got : List ℕ) (due : Status) (text : List ℕ) → asked ≡ None → IsDue asked s t got due text → due ≡ statuses.Usage
 none-due asked s t got _ _ none (bad_words e nothing kept) = refl
-none-due asked s t got _ _ none (bad_length q e long) = absurd (cc (none, e))
+none-due asked s t got _ _ none (bad_length q e reads long) = absurd (cc (none, e))
 none-due asked s t got _ _ none (answered q a e input is) = absurd (cc (none, e))
 
 none-ends : (asked : Option Asked) (s t k h : Told) (got : List ℕ) (result : Status) → asked ≡ None → ¬ Rose k.faults h.faults → Ends asked s t k h got result → (result ≡ statuses.Memory) ⊎ (result ≡ statuses.Usage)
 none-ends asked s t k h got _ none well (wrote due text is w) = inr (none-due asked s t got due text none is)
 none-ends asked s t k h got _ none well (write_fault due text is w rose) = absurd (well rose)
-none-ends asked s t k h got _ none well (read_fault q e few rose kept) = absurd (cc (none, e))
+none-ends asked s t k h got _ none well (read_fault q e reads few rose kept) = absurd (cc (none, e))
 none-ends asked s t k h got _ none well (no_memory kept) = inl refl
 
 pub words_are_refused : WordsAreRefused
@@ -63,13 +63,13 @@ no-more false s t got input = let e = ap (λ xs. length xs) input.0 in omega (ar
 
 long-due : (asked : Option Asked) (s t : Told) (got : List ℕ) (due : Status) (text : List ℕ) → most_input < length got → IsDue asked s t got due text → due ≡ statuses.TooLong
 long-due asked s t got _ _ long (bad_words e nothing kept) = let z = ap (λ xs. length xs) nothing in absurd (omega (arith, z, long))
-long-due asked s t got _ _ long (bad_length q e more) = refl
+long-due asked s t got _ _ long (bad_length q e reads more) = refl
 long-due asked s t got _ _ long (answered q a e input is) = let z = no-more (reads_input q.command) s t got input in absurd (omega (arith, z, long))
 
 long-ends : (asked : Option Asked) (s t k h : Told) (got : List ℕ) (result : Status) → most_input < length got → ¬ Rose k.faults h.faults → Ends asked s t k h got result → (result ≡ statuses.Memory) ⊎ (result ≡ statuses.TooLong)
 long-ends asked s t k h got _ long well (wrote due text is w) = inr (long-due asked s t got due text long is)
 long-ends asked s t k h got _ long well (write_fault due text is w rose) = absurd (well rose)
-long-ends asked s t k h got _ long well (read_fault q e few rose kept) = absurd (omega (arith, few, long))
+long-ends asked s t k h got _ long well (read_fault q e reads few rose kept) = absurd (omega (arith, few, long))
 long-ends asked s t k h got _ long well (no_memory kept) = inl refl
 
 pub length_is_refused : LengthIsRefused
@@ -90,7 +90,7 @@ Answered q k h text result = (a : Answer) × IsAnswer q text a × (result ≡ a.
 due-answers : (q : Asked) (asked : Option Asked) (s t k h : Told) (text got : List ℕ) (due : Status) (w : List ℕ) → asked ≡ Some q → reads_input q.command ≡ true
     → Consumes (Some text) t.bytes got → length text ≤ most_input → IsDue asked s t got due w → Appends k.bytes h.bytes w → Answered q k h text due
 due-answers q asked s t k h text got _ _ e reads gone few (bad_words none nothing kept) out = absurd (cc (none, e))
-due-answers q asked s t k h text got _ _ e reads gone few (bad_length r f long) out = let z = front-of text got t.bytes gone in absurd (omega (arith, z, few, long))
+due-answers q asked s t k h text got _ _ e reads gone few (bad_length r f input long) out = let z = front-of text got t.bytes gone in absurd (omega (arith, z, few, long))
 due-answers q asked s t k h text got _ _ e reads gone few (answered r a f input is) out =
     let same : r ≡ q = cc in
     let mine : IsInput (reads_input q.command) s t got = subst (λ x. IsInput (reads_input x.command) s t got) same input in
@@ -103,7 +103,7 @@ ends-answer : (q : Asked) (asked : Option Asked) (s t k h : Told) (text got : Li
     → (result ≡ statuses.Memory) ⊎ Answered q k h text result
 ends-answer q asked s t k h text got _ e reads gone few in_well out_well (wrote due w is out) = inr (due-answers q asked s t k h text got due w e reads gone few is out)
 ends-answer q asked s t k h text got _ e reads gone few in_well out_well (write_fault due w is out rose) = absurd (out_well rose)
-ends-answer q asked s t k h text got _ e reads gone few in_well out_well (read_fault r f some rose kept) = absurd (in_well rose)
+ends-answer q asked s t k h text got _ e reads gone few in_well out_well (read_fault r f input some rose kept) = absurd (in_well rose)
 ends-answer q asked s t k h text got _ e reads gone few in_well out_well (no_memory kept) = inl refl
 
 pub input_is_answered : InputIsAnswered

@@ -35,7 +35,7 @@ read_stopped asked s t k g = record {
   gone = g.gone;
   reads = g.reads;
   writes = same k.faults;
-  ends = read_fault g.given.0 g.given.1 g.given.2 g.given.3 refl;
+  ends = read_fault g.given.0 g.given.1 g.given.2 g.given.3 g.given.4 refl;
 }
 
 -- the same call, of what is asked for
@@ -83,7 +83,7 @@ along asked s t got d e h is = subst (λ x. IsDue asked s t got (due_status x) (
 
 due-is : (asked : Option Asked) (s t : Told) (got : List ℕ) (given : Given) (d : Due) → IsGiven asked s t got (Ok given) → IsDueFor given d → IsDue asked s t got (due_status d) (due_text d)
 due-is asked s t got NoCommand d g e = along asked s t got d BadWords e (bad_words g.0 g.1 g.2)
-due-is asked s t got TooLong d g e = along asked s t got d BadLength e (bad_length g.0 g.1 g.2)
+due-is asked s t got TooLong d g e = along asked s t got d BadLength e (bad_length g.0 g.1 g.2 g.3)
 due-is asked s t got (Text q text) d g e =
     along asked s t got d (Answered e.0) e.1 (answered q e.0 g.0 g.2 (subst (λ x. IsAnswer q x e.0) g.1 e.2))
 

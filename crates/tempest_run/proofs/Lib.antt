@@ -2,6 +2,8 @@ mod Accepting
 mod Answered
 mod CallLaws
 mod Calling
+mod Complete
+mod HowEnded
 mod Merged
 mod OneMemory
 mod Refused

@@ -9,12 +9,15 @@ use Rattle.stache_tree.specs.Tree.{IsStache}
 use Rattle.journal.specs.declared.finals.Final.{Final}
 use Rattle.journal.specs.declared.history.Break.{Break}
 use Rattle.journal.specs.declared.reports.Options.{Options}
-use Rattle.journal.specs.Finals.{counted_finals, finals_of}
+use Rattle.journal.specs.Finals.{counted_finals}
 use Rattle.journal.specs.Gathered.{words_of}
 use Rattle.journal.specs.History.{first_break}
 use Rattle.journal.specs.Laws.{HistoryIsTold}
 use Rattle.sample_runs.specs.Samples.{sample_setup}
 use Rattle.sample_runs.specs.Summaries.{summary_under}
+use Rattle.sample_sums.specs.OneSummary.{SampleHasOneSummary}
+use Rattle.sound_runs.proofs.Sound.{stache_is_sound_to_its_end}
+use Rattle.sound_runs.proofs.Stamps.{stamps_are_sound}
 use Rattle.still_meaning.specs.Gathers.{GatheredShown}
 use Rattle.tempest_run.specs.declared.answer.Answer.{Answer}
 use Rattle.tempest_run.specs.declared.status.Status.TheVariants.{Done}
@@ -30,7 +33,7 @@ told_is_run s j k r same told = subst (λ (es : List Entry). IsRun s es) (sym sa
 
 quiet_run : (s : Setup) (j : List Entry) (r : GatheredShown) → HistoryIsTold → IsSetup s → (told : IsToldRun s j r) → IsQuietRun s j told.state
 quiet_run s j r history valid told =
-    record { run = told.run; quiet = told.tells.quiet; history = history s j told.state valid told.run }
+    record { run = told.run; quiet = told.tells.quiet; stamps = stamps_are_sound s j told.state valid told.run; history = history s j told.state valid told.run }
 
 -- ---- a report
 
@@ -45,6 +48,7 @@ tells_of_threads s o a j k r finals words history valid sorted told hj hf hw tel
   run = quiet_run s j r history valid told;
   sorted = sorted;
   one_memory = λ is. one_memory s j told.state valid is told.run told.tells.quiet;
+  sound = λ is. stache_is_sound_to_its_end s j told.state valid is told.run told.tells.quiet;
   counted = λ asked. told.counted;
   tells = tale s o j k told.state (λ i. (told.counts i).ops) (λ i. (told.counts i).records) finals words a hj (hf ∙ told.tells.finals)
       (hw ∙ told.tells.words) tells;
@@ -74,10 +78,10 @@ summarized k j i r finals words broken text told hj hf hw hb ht =
 pub tells_of_sample :
     (k : ℕ) (s : Setup) (j i : List Entry) (r : GatheredShown) (finals : List Final) (words : List ℕ) (broken : Option Break)
     (text : List ℕ) →
-    HistoryIsTold → s ≡ sample_setup k → IsSetup s → IsStache s.protocol → IsSorted j → IsToldRun s j r → i ≡ j → finals ≡ r.finals →
+    HistoryIsTold → SampleHasOneSummary → s ≡ sample_setup k → IsSetup s → IsStache s.protocol → IsSorted j → IsToldRun s j r → i ≡ j → finals ≡ r.finals →
     words ≡ r.words → broken ≡ first_break s j → text ≡ summary_under s.protocol k i finals words broken →
     TellsOfSample k (record { status = Done; text = text })
-tells_of_sample k s j i r finals words broken text history e valid is sorted told hj hf hw hb ht =
+tells_of_sample k s j i r finals words broken text history one e valid is sorted told hj hf hw hb ht =
     let sample : Setup = sample_setup k in
     let valid2 : IsSetup sample = subst (λ (t : Setup). IsSetup t) e valid in
     let is2 : IsStache sample.protocol = subst (λ (t : Setup). IsStache t.protocol) e is in
@@ -85,11 +89,14 @@ tells_of_sample k s j i r finals words broken text history e valid is sorted tol
     let hb2 : broken ≡ first_break sample j = hb ∙ ap (λ (t : Setup). first_break t j) e in
     let ht2 : text ≡ summary_under sample.protocol k i finals words broken =
     ht ∙ ap (λ (t : Setup). summary_under t.protocol k i finals words broken) e in
+    let tale : done text ≡ sample_answer k j told2.state = summarized k j i r finals words broken text told2 hj hf hw hb2 ht2 in
     record {
       journal = j;
       state = told2.state;
       run = quiet_run sample j r history valid2 told2;
       sorted = sorted;
       one_memory = one_memory sample j told2.state valid2 is2 told2.run told2.tells.quiet;
-      tells = summarized k j i r finals words broken text told2 hj hf hw hb2 ht2;
+      sound = stache_is_sound_to_its_end sample j told2.state valid2 is2 told2.run told2.tells.quiet;
+      tells = tale;
+      one = tale ∙ ap (λ (x : List ℕ). done x) (one k j told2.state told2.run told2.tells.quiet);
     }

@@ -34,21 +34,25 @@ use Rattle.node_meaning.specs.Tallies.{Tally}
 use Rattle.counted_runs.specs.Counted.{HasCounts}
 use Rattle.sample_runs.specs.Samples.{sample_setup}
 use Rattle.sample_runs.specs.Summaries.{summary_text}
+use Rattle.sample_sums.specs.OneSummary.{one_summary}
 use Rattle.tempest_run.specs.declared.answer.Answer.{Answer}
 use Rattle.tempest_run.specs.declared.status.Status.{Status}
 use Rattle.tempest_run.specs.declared.status.Status.TheVariants as statuses
 use Rattle.stache_tree.specs.Tree.{IsStache}
+use Rattle.sound_runs.specs.Sound.{IsSoundToItsEnd}
+use Rattle.sound_runs.specs.Stamps.{HasSoundStamps}
 use Rattle.stache_cases.specs.Text.{table_text}
 use Rattle.tempest_run.specs.Inputs.{input_of}
 use Rattle.tempest_run.specs.OneMemory.{OneMemory}
 
 -- ---- runs
 
--- A run of the model to a state in which no event can happen; and what is told of its history is so: one flat memory explains
--- it, or the break is the first.
+-- A run of the model to a state in which no event can happen, with sound stamps; and what is told of its history is so: one flat
+-- memory explains it, or the break is the first.
 pub record IsQuietRun (s : Setup) (j : List Entry) (g : World) : Type 0 where
   pub run : Runs s (start s) j g
   pub quiet : IsQuiet s g
+  pub stamps : HasSoundStamps s j g
   pub history : History s j g (first_break s j)
 
 -- a journal of a run
@@ -79,14 +83,15 @@ told_answer s j finals words o = record { status = status_of finals; text = repo
 abbrev pub report_answer : Setup → List Entry → World → (ℕ → ℕ) → (ℕ → ℕ) → Options → Answer
 report_answer s j g ops records o = told_answer s j (counted_finals s g ops records) (words_of s g) o
 
--- The answer tells of the serial run of this stride; under the shipped protocol one memory explains it. Where counts are
--- asked for, they are those of the compiled handlers beside the run.
+-- The answer tells of the serial run of this stride; under the shipped protocol one memory explains it, and it is sound to its
+-- end. Where counts are asked for, they are those of the compiled handlers beside the run.
 pub record TellsOfRun (s : Setup) (stride : ℕ) (o : Options) (a : Answer) : Type 0 where
   pub journal : List Entry
   pub state : World
   pub counts : ℕ → Tally
   pub run : IsSerialRun s stride journal state
   pub one_memory : IsStache s.protocol → OneMemory s journal state
+  pub sound : IsStache s.protocol → IsSoundToItsEnd s journal state
   pub counted : o.counts ≡ true → HasCounts s journal state counts
   pub tells : a ≡ report_answer s journal state (λ i. (counts i).ops) (λ i. (counts i).records) o
 
@@ -101,6 +106,7 @@ pub record TellsOfThreads (s : Setup) (o : Options) (a : Answer) : Type 0 where
   pub run : IsQuietRun s journal state
   pub sorted : IsSorted journal
   pub one_memory : IsStache s.protocol → OneMemory s journal state
+  pub sound : IsStache s.protocol → IsSoundToItsEnd s journal state
   pub counted : o.counts ≡ true → HasCounts s journal state counts
   pub tells : a ≡ report_answer s journal state (λ i. (counts i).ops) (λ i. (counts i).records) o
 
@@ -111,14 +117,21 @@ sample_answer k j g = record {
   text = summary_text k j (finals_of (sample_setup k) g) (words_of (sample_setup k) g) (first_break (sample_setup k) j);
 }
 
--- the answer tells of a run of sample k on threads, whichever it was, and one memory explains it
+-- the one answer about sample k
+abbrev pub one_sample_answer : ℕ → Answer
+one_sample_answer k = record { status = statuses.Done; text = one_summary k }
+
+-- The answer tells of a run of sample k on threads, whichever it was; one memory explains it, and it is sound to its end. It is the
+-- same answer whichever run it was.
 pub record TellsOfSample (k : ℕ) (a : Answer) : Type 0 where
   pub journal : List Entry
   pub state : World
   pub run : IsQuietRun (sample_setup k) journal state
   pub sorted : IsSorted journal
   pub one_memory : OneMemory (sample_setup k) journal state
+  pub sound : IsSoundToItsEnd (sample_setup k) journal state
   pub tells : a ≡ sample_answer k journal state
+  pub one : a ≡ one_sample_answer k
 
 -- ---- refusals, and answers about a protocol
 

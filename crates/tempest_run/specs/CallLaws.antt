@@ -1,15 +1,27 @@
 -- What follows from the record of a call: what each status says, and that a call which does not fail answers.
-use Rattle.std.specs.Prelude.{◌≡◌, ◌⊎◌, ℕ, ◌<◌, ◌≤◌, length, true, List, [], Option, Some, None}
+use Rattle.std.specs.Prelude.{◌≡◌, ◌≢◌, ◌⊎◌, ◌↔◌, ℕ, ◌<◌, ◌≤◌, length, true, false, List, [], Option, Some, None, Ok}
 use Rattle.std.specs.Io.KnownBytes.{Appends}
 use Rattle.tw_io.specs.Causes.{Rose}
 use Rattle.tw_io.specs.Reading.{AppendsPrefix}
 use Rattle.tw_io.specs.Told.{Told}
+use Rattle.tw_base.specs.declared.entry.Entry.{Entry}
+use Rattle.dsm_runs.specs.declared.outcome.Outcome.TheVariants as outcomes
+use Rattle.dsm_runs.specs.Locals.{Local}
+use Rattle.dsm_runs.specs.Outcomes.{outcome_of}
+use Rattle.dsm_runs.specs.Setups.{Setup}
+use Rattle.dsm_runs.specs.Worlds.{World}
+use Rattle.stache_tree.specs.Tree.{IsStache}
+use Rattle.sound_runs.specs.Sound.{HasSpent, HasTrapped}
+use Rattle.journal.specs.declared.reports.Options.{Options}
 use Rattle.tempest_words.specs.declared.request.Asked.{Asked}
+use Rattle.tempest_words.specs.declared.request.Command.{Command}
+use Rattle.tempest_words.specs.declared.request.Command.TheVariants as commands
 use Rattle.tempest_run.specs.declared.answer.Answer.{Answer}
 use Rattle.tempest_run.specs.declared.status.Status.{Status}
 use Rattle.tempest_run.specs.declared.status.Status.TheVariants as statuses
-use Rattle.tempest_run.specs.Answering.{IsAnswer, reads_input}
+use Rattle.tempest_run.specs.Answering.{Answers, AnswersAlone, IsAnswer, IsQuietRun, options_of, reads_input, report_answer}
 use Rattle.tempest_run.specs.Calls.{IsDue, IsInput, TopCall, most_input, refused_length, refused_words}
+use Rattle.tempest_run.specs.Inputs.{input_of}
 
 -- the words ask for something, the text is its input, and this status and what was written are the answer
 abbrev pub IsAnsweredWith : Option Asked → Told → Told → Told → Told → List ℕ → Status → Type 0
@@ -52,3 +64,62 @@ InputIsAnswered =
     (q : Asked) (source source' sink sink' : Told) (result : Status) (text : List ℕ) → TopCall (Some q) source source' sink sink' result
     → ¬ Rose source.faults source'.faults → ¬ Rose sink.faults sink'.faults → reads_input q.command ≡ true → source.bytes ≡ Some text → length text ≤ most_input
     → (result ≡ statuses.Memory) ⊎ ((a : Answer) × IsAnswer q text a × (result ≡ a.status) × Appends sink.bytes sink'.bytes a.text)
+
+-- ---- completeness
+
+-- the source tells a text to its end, which sets this up
+pub record TellsOfSetup (source : Told) (s : Setup) : Type 0 where
+  pub text : List ℕ
+  pub told : source.bytes ≡ Some text
+  pub short : length text ≤ most_input
+  pub valid : input_of text ≡ Ok s
+
+-- some node is such
+abbrev pub SomeNode : Setup → World → (Local → Type 0) → Type 0
+SomeNode s g P = (i : ℕ) × (i < s.shape.nodes) × P (g.locals i)
+
+-- The status of a report says how the nodes ended: 0 exactly where all have halted, 8 exactly where one has not. Under the
+-- shipped protocol that is exactly where one has trapped, or would go on and has made as many instruction events as it may.
+pub record SaysHowNodesEnded (s : Setup) (g : World) (status : Status) : Type 0 where
+  pub done : (status ≡ statuses.Done) ↔ ((i : ℕ) → i < s.shape.nodes → outcome_of s (g.locals i) ≡ outcomes.Halted)
+  pub unfinished : (status ≡ statuses.Unfinished) ↔ SomeNode s g (λ l. outcome_of s l ≢ outcomes.Halted)
+  pub under_stache : IsStache s.protocol → (status ≡ statuses.Unfinished) ↔ SomeNode s g (λ l. HasTrapped l ⊎ HasSpent s l)
+
+-- the answer is the report of a run of s to this state, and its status says how the nodes ended there
+pub record IsReport (s : Setup) (o : Options) (a : Answer) : Type 0 where
+  pub journal : List Entry
+  pub state : World
+  pub ops : ℕ → ℕ
+  pub records : ℕ → ℕ
+  pub run : IsQuietRun s journal state
+  pub tells : a ≡ report_answer s journal state ops records o
+  pub says : SaysHowNodesEnded s state a.status
+
+-- the status of an answer to a command about s is 0, and of a report 0 or 8
+abbrev pub HasItsStatus : Command → Options → Setup → Answer → Type 0
+HasItsStatus commands.Run o s a = IsReport s o a
+HasItsStatus (commands.Serial stride) o s a = IsReport s o a
+HasItsStatus commands.Check o s a = a.status ≡ statuses.Done
+HasItsStatus commands.Code o s a = a.status ≡ statuses.Done
+HasItsStatus commands.Show o s a = a.status ≡ statuses.Done
+HasItsStatus commands.Table o s a = a.status ≡ statuses.Done
+HasItsStatus (commands.Sample k) o s a = a.status ≡ statuses.Done
+
+-- Where no end failed, a command is answered whose source tells a valid text, with status 0 or, where a report says so, 8; unless
+-- memory ran out.
+abbrev pub ValidTextsAreAnswered : Type 0
+ValidTextsAreAnswered =
+    (q : Asked) (source source' sink sink' : Told) (result : Status) (s : Setup)
+    → TopCall (Some q) source source' sink sink' result → ¬ Rose source.faults source'.faults → ¬ Rose sink.faults sink'.faults → reads_input q.command ≡ true → TellsOfSetup source s
+    → (result ≡ statuses.Memory)
+    ⊎ ((a : Answer) × Answers q.command (options_of q) s a × HasItsStatus q.command (options_of q) s a × (result ≡ a.status)
+    × Appends sink.bytes sink'.bytes a.text)
+
+-- Where no end failed, a command that reads no text is answered, with status 0, unless memory ran out.
+abbrev pub OthersAreAnswered : Type 0
+OthersAreAnswered =
+    (q : Asked) (source source' sink sink' : Told) (result : Status) → TopCall (Some q) source source' sink sink' result
+    → ¬ Rose source.faults source'.faults → ¬ Rose sink.faults sink'.faults → reads_input q.command ≡ false
+    → (result ≡ statuses.Memory)
+    ⊎ ((a : Answer) × AnswersAlone q.command a × (result ≡ a.status) × (result ≡ statuses.Done)
+    × Appends sink.bytes sink'.bytes a.text)

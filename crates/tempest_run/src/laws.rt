@@ -1,4 +1,4 @@
-ghost use Rattle.tempest_run.specs.CallLaws.{InputIsAnswered, LengthIsRefused, StatusesSay, WordsAreRefused};
+ghost use Rattle.tempest_run.specs.CallLaws.{InputIsAnswered, LengthIsRefused, OthersAreAnswered, StatusesSay, ValidTextsAreAnswered, WordsAreRefused};
 ghost use Rattle.tempest_run.specs.Laws.{AnswerIsOne};
 ghost use Rattle.tempest_run.specs.Refusals.{RefusalIsOfAKind, RefusalIsOne, TextIsNeverBoth, TextIsNoMemory, TextIsValidOrRefused};
 
@@ -12,7 +12,7 @@ use teapot_parse::{
 };
 use tempest_input::{input_is_valid_or_refused, layout_is_read_both_ways};
 
-/// The status and what is written are a function of the words and the input.
+/// The status and what is written are a function of the words and the input, but for `run`.
 pub fn answer_is_one()
     ensures { AnswerIsOne }
 {
@@ -51,4 +51,11 @@ pub fn calls_that_do_not_fail_answer()
     ensures words { WordsAreRefused }
     ensures length { LengthIsRefused }
     ensures input { InputIsAnswered }
+{}
+
+/// A call in which no end failed answers each command, from a valid text where the command reads one: with status 0, or with a
+/// report whose status says how the nodes of its run ended, unless memory ran out.
+pub fn commands_are_answered()
+    ensures texts { ValidTextsAreAnswered }
+    ensures others { OthersAreAnswered }
 {}

@@ -16,7 +16,8 @@ mod top;
 pub use dsm_runs::Setup;
 pub use input::read_input;
 pub use laws::{
-    answer_is_one, calls_that_do_not_fail_answer, statuses_say, text_is_valid_or_refused,
+    answer_is_one, calls_that_do_not_fail_answer, commands_are_answered, statuses_say,
+    text_is_valid_or_refused,
 };
 pub use status::Status;
 pub use tempest_input::{InputError, Why};

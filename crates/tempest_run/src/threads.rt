@@ -1,7 +1,7 @@
-ghost use Rattle.std.specs.Prelude.{◌≡◌, ◌+◌, ◌^◌, ◌<◌, true, length, Some, IfOk, OnErr};
+ghost use Rattle.std.specs.Prelude.{◌≡◌, ◌+◌, ◌^◌, ◌<◌, length, Some, IfOk, OnErr};
 ghost use Rattle.dsm_runs.specs.Merges.{IsSorted};
 ghost use Rattle.gathered_runs.specs.Runs.{IsToldRun};
-ghost use Rattle.tempest_run.specs.Answering.{IsAnswer, TellsOfSample, TellsOfThreads, is_threaded};
+ghost use Rattle.tempest_run.specs.Answering.{IsAnswer, TellsOfSample, TellsOfThreads};
 ghost use Rattle.tempest_run.specs.Calls.{IsDueFor, IsShort, IsText, TopCall, told};
 
 use crate::answer::{Answer, answer_to, break_of, options_of, refusal, told_answer};
@@ -13,6 +13,7 @@ use dsm_runs::Setup;
 use journal::{Options, history_is_told, merge};
 use node_runtime::{Gate, run_threads};
 use sample_runs::{sample_setup, summary};
+use sample_sums::samples_have_one_summary;
 use std::alloc::Global;
 use std::sync::Wait;
 use std::thread::Threads;
@@ -84,6 +85,7 @@ fn sample_answer<R: Threads + Wait + Sync, G: Gate + Sync>(
     ensures { IfOk result (λ a. TellsOfSample number a) }
 {
     history_is_told();
+    samples_have_one_summary();
     let setup = sample_setup(alloc, number)?;
     let run = run(rt, alloc, &setup, gate, batch)?;
     let broken = break_of(alloc, &setup, run.journal.items())?;

@@ -1,4 +1,4 @@
-use Rattle.std.proofs.Common.{◌≡◌, ap, ◌∙◌}
+use Rattle.std.proofs.Common.{ap, ◌∙◌}
 use Rattle.std.proofs.lemmas.Result.{IfOk-weaker}
 use Rattle.tempest_run.specs.declared.threads.ThreadedRun.{ThreadedRun}
 use Rattle.tempest_run.proofs.Merged.{told_is_run, tells_of_threads}
