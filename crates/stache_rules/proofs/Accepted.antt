@@ -25,7 +25,7 @@ no_params : Each (λ (s : State). s.params ≡ []) states
 unfolding states
 no_params = (refl, (refl, (refl, (refl, (refl, (refl, (refl, (refl, (refl, (refl, tt))))))))))
 
-one_line : (line : ℕ) (ps : List Param) → map bare_param ps ≡ [] → Each (λ (a : Param). a.line ≡ line) ps
+pub one_line : (line : ℕ) (ps : List Param) → map bare_param ps ≡ [] → Each (λ (a : Param). a.line ≡ line) ps
 one_line line [] h = tt
 one_line line (a ∷ ps) h = absurd cc
 
@@ -36,7 +36,7 @@ tree p is =
 
 -- ---- it breaks no rule
 
-no_zeros : (xs : List ℕ) → zeros xs ≡ [] → xs ≡ []
+pub no_zeros : (xs : List ℕ) → zeros xs ≡ [] → xs ≡ []
 no_zeros [] h = refl
 no_zeros (x ∷ xs) h = absurd cc
 

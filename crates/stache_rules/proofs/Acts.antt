@@ -21,7 +21,7 @@ pub data Act : Type 0 where
   asks : Term → Act
   other : Simple → Act
 
-abbrev deed_of : Act → Deed
+abbrev pub deed_of : Act → Deed
 deed_of (sets n e) = does (assign n (expr_of e))
 deed_of (sends e n) = does (send (expr_of e) n [])
 deed_of (sends_all e n) = does (send_all (expr_of e) n [])
@@ -43,7 +43,7 @@ acts (Install c) = other install ∷ acts c
 acts (Enqueue c) = other enqueue ∷ acts c
 acts (WakeUp c) = other wake_up ∷ acts c
 
-abbrev step_of : Act → Step
+abbrev pub step_of : Act → Step
 step_of a = step 0 (deed_of a)
 
 steps-are : (c : Code) → steps_in (code_body c) ≡ map step_of (acts c)
@@ -76,7 +76,7 @@ lines-are test own e c =
 
 -- ---- the tests
 
-abbrev knows : Scope → List Name → Bool
+abbrev pub knows : Scope → List Name → Bool
 knows c names = list_all (is_among (visible c)) names && true
 
 abbrev pub undeclared : Scope → Act → Bool

@@ -20,17 +20,17 @@ use Rattle.stache_tree.proofs.Bodies.{body-is, code_body}
 use Rattle.stache_rules.proofs.Acts.{act_lines, flat-as, mistyped, mistyped-lines, undeclared, undeclared-lines}
 use Rattle.stache_rules.proofs.Doors.{Door, Told, handler_of, state_of as told_state, told, told-is}
 
-abbrev scope_at : Protocol → Told → Door → Scope
+abbrev pub scope_at : Protocol → Told → Door → Scope
 scope_at p t d = record { protocol = p; state = told_state t; handler = handler_of d }
 
 -- the lines of a handler's statements, over its code
-abbrev walked : Rule → Protocol → Told → Door → List ℕ
+abbrev pub walked : Rule → Protocol → Told → Door → List ℕ
 walked r p t d = walk (comes_first r) (breaks_at (scope_at p t d) r) (code_body d.code) false false
 
 walked-is : (r : Rule) (p : Protocol) (t : Told) (d : Door) → body_lines r (scope_at p t d) ≡ walked r p t d
 walked-is r p t d = sym (walk_lines r (scope_at p t d)) ∙ ap (λ b. walk (comes_first r) (breaks_at (scope_at p t d) r) b false false) (body-is d.code)
 
-abbrev told_lines : Rule → Protocol → Told → Door → List ℕ
+abbrev pub told_lines : Rule → Protocol → Told → Door → List ℕ
 told_lines Undeclared p t d = line_if (answers_undeclared p d.trigger) 0 ++ act_lines (undeclared (scope_at p t d)) d.code
 told_lines Twice p t d = again_names (visible_names (scope_at p t d)) ++ walked Twice p t d
 told_lines WrongType p t d = act_lines (mistyped (scope_at p t d)) d.code
@@ -58,10 +58,10 @@ told-lines NoData p t d = walked-is NoData p t d
 told-lines TooManySends p t d = ap (λ b. line_if (nat_lt 32 (most b)) 0) (body-is d.code)
 told-lines NotTwoStarts p t d = refl
 
-all_told : Rule → Protocol → List Told → List ℕ
+unfoldable pub all_told : Rule → Protocol → List Told → List ℕ
 all_told r p ts = flat_map (λ (t : Told). flat_map (λ (d : Door). told_lines r p t d) t.doors) ts
 
-handlers-told : (r : Rule) (p : Protocol) (ts : List Told) → p.states ≡ map told_state ts → in_handlers (handler_lines r) p ≡ all_told r p ts
+pub handlers-told : (r : Rule) (p : Protocol) (ts : List Told) → p.states ≡ map told_state ts → in_handlers (handler_lines r) p ≡ all_told r p ts
 unfolding all_told
 handlers-told r p ts e =
     ap (λ ss. flat_map (λ (s : State). flat_map (λ (h : Handler). handler_lines r (record { protocol = p; state = s; handler = h })) s.handlers) ss) e
@@ -86,16 +86,16 @@ none-told NotTwoStarts = refl
 
 -- ---- what stands outside the handlers
 
-record IsFineOutside (p : Protocol) : Type 0 where
-  starts : flat_map (λ (s : Start). line_if (is_none (state_of p s.state)) s.line) p.starts ≡ []
-  wrong : flat_map (λ (s : Start). line_if (is_wrong_start (state_of p s.state)) s.line) p.starts ≡ []
-  messages : again_messages p.messages ≡ []
-  infos : again_params p.infos ≡ []
-  states : again_states p.states ≡ []
-  conts : flat_map (λ (s : State). line_if (names_cont s) s.line) p.states ≡ []
-  handlers : flat_map (λ (s : State). again_handlers s.handlers) p.states ≡ []
-  defaults : flat_map (λ (s : State). line_if (not (has_default s)) s.line) p.states ≡ []
-  two : again_starts p.starts ++ line_if (nat_lt (length p.starts) 2) p.line ≡ []
+pub record IsFineOutside (p : Protocol) : Type 0 where
+  pub starts : flat_map (λ (s : Start). line_if (is_none (state_of p s.state)) s.line) p.starts ≡ []
+  pub wrong : flat_map (λ (s : Start). line_if (is_wrong_start (state_of p s.state)) s.line) p.starts ≡ []
+  pub messages : again_messages p.messages ≡ []
+  pub infos : again_params p.infos ≡ []
+  pub states : again_states p.states ≡ []
+  pub conts : flat_map (λ (s : State). line_if (names_cont s) s.line) p.states ≡ []
+  pub handlers : flat_map (λ (s : State). again_handlers s.handlers) p.states ≡ []
+  pub defaults : flat_map (λ (s : State). line_if (not (has_default s)) s.line) p.states ≡ []
+  pub two : again_starts p.starts ++ line_if (nat_lt (length p.starts) 2) p.line ≡ []
 
 fine-outside : IsFineOutside stache
 unfolding states
@@ -104,7 +104,7 @@ fine-outside = record { starts = refl; wrong = refl; messages = refl; infos = re
 nothing : {xs ys : List ℕ} → xs ≡ [] → ys ≡ [] → xs ++ ys ≡ []
 nothing h k = λ i. h i ++ k i
 
-none : (p : Protocol) → IsFineOutside p → ((r : Rule) → in_handlers (handler_lines r) p ≡ []) → (r : Rule) → lines p r ≡ []
+pub none : (p : Protocol) → IsFineOutside p → ((r : Rule) → in_handlers (handler_lines r) p ≡ []) → (r : Rule) → lines p r ≡ []
 none p out within Undeclared = nothing out.starts (within Undeclared)
 none p out within Twice = nothing out.messages (nothing out.infos (nothing out.states (nothing out.conts (nothing out.handlers (within Twice)))))
 none p out within WrongType = within WrongType

@@ -1,0 +1,5 @@
+pub mod Rows
+pub mod Table
+pub mod Bares
+pub mod Shipped
+pub mod Told
