@@ -1,5 +1,7 @@
-ghost use Rattle.std.specs.Prelude.{◌^◌, ◌<◌, length};
+ghost use Rattle.std.specs.Prelude.{ℕ, ◌^◌, ◌<◌, length};
 ghost use Rattle.compiled_meaning.specs.Whole.{IsCode};
+ghost use Rattle.dsm_runs.specs.Laws.{IsLog};
+ghost use Rattle.still_meaning.specs.Gathers.{log_of};
 
 use crate::machines::{code, setup};
 use dsm_runs::Setup;
@@ -40,6 +42,15 @@ fn report_of(
     Ok(report(alloc, setup, journal, finals, words, broken, options)?)
 }
 
+/// What is known of a run, from what was gathered of its nodes.
+pub fn told(alloc: Global, setup: &Setup, gathered: &Gathered) -> Result<Run, Fail>
+    requires { (i : ℕ) → i < length gathered.now.logs → IsLog i (log_of gathered.now.logs i) }
+{
+    let journal = merge(alloc, &gathered.logs)?;
+    let report = report_of(alloc, setup, gathered, journal.items())?;
+    Ok(Run { journal, report })
+}
+
 fn run_setup<G: Gate + Sync, R: Threads + Wait + Sync>(
     rt: &R,
     alloc: Global,
@@ -52,9 +63,7 @@ fn run_setup<G: Gate + Sync, R: Threads + Wait + Sync>(
     requires short { length code.now.ops < 2 ^ 22 }
 {
     let gathered = run_threads(rt, alloc, setup, code, gate, q, 1000)?;
-    let journal = merge(alloc, &gathered.logs)?;
-    let report = report_of(alloc, setup, &gathered, journal.items())?;
-    Ok(Run { journal, report })
+    told(alloc, setup, &gathered)
 }
 
 /// Runs what a text sets up on threads, with turns of at most q events.

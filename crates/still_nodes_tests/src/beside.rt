@@ -2,12 +2,12 @@ ghost use Rattle.std.specs.Prelude.{◌^◌, ◌<◌, length};
 ghost use Rattle.compiled_meaning.specs.Whole.{IsCode};
 
 use crate::setups::{code, setup};
-use crate::tables::SHORT_READER;
 use crate::telling::are_all;
 use dsm_model::settle;
 use dsm_runs::Setup;
 use handler_code::Code;
 use journal::{Final, finals_of, words_of};
+use machine_texts::SHORT_READER;
 use std::alloc::Global;
 use std::process::Abort;
 use std::test::Fail;

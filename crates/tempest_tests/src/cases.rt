@@ -1,14 +1,22 @@
 //! Cases, parted by `%%`: an input, and behind each `=>` the words that ask of it, the status and the report. A line such as
-//! `<WALK>` stands for the sample protocol of that name.
+//! `<BOTH>` stands for the machine of that name, and one such as `<WALK>` for the sample protocol.
 
 use crate::asking::{expect, expect_same};
+use driven_rows::TWO_RESTS;
+use machine_texts::{BOTH, READER, SEVEN_READERS, SHORT_READER, STORE_AND_PRINT};
 use std::alloc::Global;
 use std::process::Abort;
 use std::test::Fail;
 use teapot_samples::{DEAF, DEEP, DOUBLE, DROP, PING_PONG, STACHE, WALK};
 use tempest_run::Status;
 
-static SAMPLES: [(&str, &str); 6] = [
+static NAMED: [(&str, &str); 12] = [
+    ("<BOTH>\n", BOTH),
+    ("<READER>\n", READER),
+    ("<SEVEN_READERS>\n", SEVEN_READERS),
+    ("<SHORT_READER>\n", SHORT_READER),
+    ("<STORE_AND_PRINT>\n", STORE_AND_PRINT),
+    ("<TWO_RESTS>\n", TWO_RESTS),
     ("<DEAF>\n", DEAF),
     ("<PING_PONG>\n", PING_PONG),
     ("<DOUBLE>\n", DOUBLE),
@@ -17,14 +25,21 @@ static SAMPLES: [(&str, &str); 6] = [
     ("<WALK>\n", WALK),
 ];
 
-// The input with the sample protocol that it names.
-fn whole(alloc: Global, input: &str) -> Result<String, Fail> {
-    for (name, protocol) in SAMPLES {
-        if let Some((front, back)) = input.split_once(name) {
-            return Ok(format!(in alloc; "{front}{protocol}{back}")?);
-        }
+// The input with this text in place of its name.
+fn with_named(alloc: Global, input: &str, name: &str, text: &str) -> Result<String, Fail> {
+    match input.split_once(name) {
+        Some((front, back)) => Ok(format!(in alloc; "{front}{text}{back}")?),
+        None => Ok(String::from_str(alloc, input)?),
     }
-    Ok(String::from_str(alloc, input)?)
+}
+
+// The input with the machine and the sample protocol that it names.
+fn whole(alloc: Global, input: &str) -> Result<String, Fail> {
+    let mut whole = String::from_str(alloc, input)?;
+    for (name, text) in NAMED {
+        whole = with_named(alloc, whole.as_str(), name, text)?;
+    }
+    Ok(whole)
 }
 
 fn status(name: &str) -> Result<Status, Fail> {
@@ -93,6 +108,7 @@ pub fn expect_meanings(rt: &impl Abort, alloc: Global, cases: &str) -> Result<()
 pub fn expect_section(rt: &impl Abort, alloc: Global, cases: &str) -> Result<(), Fail> {
     let first = cases.split("%%\n").next().ok_or("no case")?;
     let (input, questions) = first.split_once("=> ").ok_or("no question")?;
-    let text = format!(in alloc; "{input}protocol\n{STACHE}end\n")?;
+    let machine = whole(alloc, input)?;
+    let text = format!(in alloc; "{machine}protocol\n{STACHE}end\n")?;
     expect_answers(rt, alloc, text.as_str(), questions)
 }

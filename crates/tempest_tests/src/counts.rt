@@ -18,24 +18,7 @@ fn setup(alloc: Global, text: &str) -> Result<Setup, Fail> {
 
 // Runs with the ops that the handlers of each node made, and the records that they saved. Of the second run, each node made
 // three ops for its fault, eight for a request and six for its data.
-const COUNTED: &str = "tempest 1
-nodes 3
-words 1
-blocks 4
-program 0
-ld r1 r0 0
-halt
-end
-program 1
-ld r1 r0 3
-halt
-end
-program 2
-li r1 9
-st r1 r0 0
-st r1 r0 3
-halt
-end
+const COUNTED: &str = "<TWO_RESTS>
 => serial 0 --counts : Done
 tempest report 1 nodes 3 words 1 blocks 4 budget 4000
 word 0 9
@@ -82,24 +65,7 @@ event 18 stamp 13 node 2 halt
 history agrees
 end
 %%
-tempest 1
-nodes 2
-words 1
-blocks 2
-program 0
-li r1 1
-st r1 r0 0
-ld r2 r0 1
-print r2
-halt
-end
-program 1
-li r1 1
-st r1 r0 1
-ld r2 r0 0
-print r2
-halt
-end
+<BOTH>
 => serial --counts 0 : Done
 tempest report 1 nodes 2 words 1 blocks 2 budget 4000
 print 0 1
@@ -117,20 +83,7 @@ counts 1 ops 17 records 1
 history agrees
 end
 %%
-tempest 1
-nodes 2
-words 1
-blocks 1
-program 0
-li r1 9
-st r1 r0 0
-halt
-end
-program 1
-ld r2 r0 0
-print r2
-halt
-end
+<STORE_AND_PRINT>
 protocol
 <WALK>
 end
@@ -143,6 +96,32 @@ node 1 halted place 2 instructions 4 handlers 2
 counts 0 ops 25 records 2
 counts 1 ops 10 records 0
 history broken event 10 node 1 address 0 read 0 due 9
+end
+%%
+<READER>
+protocol
+<DEAF>
+end
+=> serial 0 --counts : Unfinished
+tempest report 1 nodes 2 words 1 blocks 1 budget 4000
+node 0 halted place 0 instructions 1 handlers 1
+node 1 stuck place 0 instructions 1 handlers 0
+counts 0 ops 1 records 0
+counts 1 ops 3 records 0
+history agrees
+end
+%%
+<SHORT_READER>
+protocol
+<PING_PONG>
+end
+=> serial 0 --counts : Unfinished
+tempest report 1 nodes 2 words 1 blocks 1 budget 2
+node 0 spent place 0 instructions 1 handlers 48
+node 1 spent place 0 instructions 1 handlers 47
+counts 0 ops 144 records 0
+counts 1 ops 144 records 0
+history agrees
 end
 ";
 

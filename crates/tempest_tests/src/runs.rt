@@ -2,24 +2,7 @@ use crate::cases::{expect_all, expect_meanings, expect_section};
 use std::test::Fail;
 
 // Runs, the code of a protocol, and protocols of profile 2.
-const RUNS: &str = "tempest 1
-nodes 2
-words 1
-blocks 2
-program 0
-li r1 1
-st r1 r0 0
-ld r2 r0 1
-print r2
-halt
-end
-program 1
-li r1 1
-st r1 r0 1
-ld r2 r0 0
-print r2
-halt
-end
+const RUNS: &str = "<BOTH>
 => serial 0 : Done
 tempest report 1 nodes 2 words 1 blocks 2 budget 4000
 print 0 1
@@ -65,45 +48,7 @@ event 15 stamp 8 node 1 halt
 history agrees
 end
 %%
-tempest 1
-nodes 8
-words 1
-blocks 8
-init 7 4
-program 0
-ld r1 r0 7
-halt
-end
-program 1
-ld r1 r0 7
-halt
-end
-program 2
-ld r1 r0 7
-halt
-end
-program 3
-ld r1 r0 7
-halt
-end
-program 4
-ld r1 r0 7
-halt
-end
-program 5
-ld r1 r0 7
-halt
-end
-program 6
-ld r1 r0 7
-halt
-end
-program 7
-ld r2 r0 6
-li r1 9
-st r1 r0 7
-halt
-end
+<SEVEN_READERS>
 => serial 0 : Done
 tempest report 1 nodes 8 words 1 blocks 8 budget 4000
 word 7 9
@@ -239,14 +184,7 @@ node 1 halted place 4 instructions 11 handlers 3
 history agrees
 end
 %%
-tempest 1
-nodes 2
-words 1
-blocks 1
-program 1
-ld r1 r0 0
-halt
-end
+<READER>
 protocol
 <DEAF>
 end
@@ -267,15 +205,7 @@ handler I Default slots 1
   4 Done
 end
 %%
-tempest 1
-nodes 2
-words 1
-blocks 1
-budget 2
-program 1
-ld r1 r0 0
-halt
-end
+<SHORT_READER>
 protocol
 <PING_PONG>
 end
@@ -314,14 +244,7 @@ node 1 halted place 2 instructions 4 handlers 2
 history broken event 11 node 1 address 1 read 0 due 7
 end
 %%
-tempest 1
-nodes 2
-words 1
-blocks 1
-program 1
-ld r1 r0 0
-halt
-end
+<READER>
 protocol
 Protocol Deep
 Message NEST() 0
@@ -372,14 +295,7 @@ node 1 stuck place 0 instructions 1 handlers 0
 history agrees
 end
 %%
-tempest 1
-nodes 2
-words 1
-blocks 1
-program 1
-ld r1 r0 0
-halt
-end
+<READER>
 protocol
 <DEEP>
 end
@@ -459,20 +375,7 @@ event 10 stamp 9 node 1 halt
 history agrees
 end
 %%
-tempest 1
-nodes 2
-words 1
-blocks 1
-program 0
-li r1 9
-st r1 r0 0
-halt
-end
-program 1
-ld r2 r0 0
-print r2
-halt
-end
+<STORE_AND_PRINT>
 protocol
 <WALK>
 end

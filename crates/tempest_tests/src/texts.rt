@@ -1,4 +1,5 @@
 use crate::asking::{ROOM, expect, words};
+use machine_texts::{ALONE, ALONE_REPORT};
 use std::alloc::Global;
 use std::test::Fail;
 use teapot_samples::STACHE;
@@ -6,11 +7,7 @@ use tempest_run::{Status, tempest_plain};
 use tw_io::{MemSink, MemSource};
 
 const REPORTS: [(&str, Status, &str); 9] = [
-    (
-        "tempest 1\nnodes 1\nwords 1\nblocks 1\nprogram 0\nli r1 5\nst r1 r0 0\nld r2 r0 0\nprint r2\nhalt\nend\n",
-        Status::Done,
-        "tempest report 1 nodes 1 words 1 blocks 1 budget 4000\nprint 0 5\nword 0 5\nregister 0 1 5\nregister 0 2 5\nnode 0 halted place 4 instructions 5 handlers 0\nhistory agrees\nend\n",
-    ),
+    (ALONE, Status::Done, ALONE_REPORT),
     (
         "tempest 1\nnodes 1\nwords 1\nblocks 1\n",
         Status::Done,

@@ -5,6 +5,8 @@
 #[cfg(test)]
 mod left;
 #[cfg(test)]
+mod pairs;
+#[cfg(test)]
 mod passing;
 #[cfg(test)]
 mod rounds;

@@ -76,7 +76,13 @@ fn take_one<R: Wait + Abort>(
 }
 
 /// Takes the first messages of a wire.
-fn take_row<R: Wait + Abort>(rt: &R, wires: &Wires, ends: &mut Vec<Ends>, route: &Route, count: u64)
+pub fn take_row<R: Wait + Abort>(
+    rt: &R,
+    wires: &Wires,
+    ends: &mut Vec<Ends>,
+    route: &Route,
+    count: u64,
+)
     requires from { route.now.from < length wires.now }
     requires to { route.now.to < length wires.now }
     requires tied { AreTied wires.now ends.old.items }
@@ -88,7 +94,7 @@ fn take_row<R: Wait + Abort>(rt: &R, wires: &Wires, ends: &mut Vec<Ends>, route:
 }
 
 /// Looks at a wire on which nothing is, for the so many-th time.
-fn look_in_vain<R: Wait + Abort>(
+pub fn look_in_vain<R: Wait + Abort>(
     rt: &R,
     wires: &Wires,
     ends: &mut Vec<Ends>,
@@ -198,7 +204,7 @@ fn push_last<R: Wait + Abort>(
 }
 
 /// New wires of n nodes, and their ends.
-fn new_wires(alloc: Global, n: u8) -> Result<(Wires, Vec<Ends>), Fail>
+pub fn new_wires(alloc: Global, n: u8) -> Result<(Wires, Vec<Ends>), Fail>
     requires { (1 ≤ n) × (n ≤ 8) }
     ensures count { IfOk result (λ r. length r.0 ≡ n) }
     ensures tied { IfOk result (λ r. AreTied r.0 r.1.items) }
