@@ -1,5 +1,5 @@
 -- The text of code.
-use Rattle.std.specs.Prelude.{ℕ, ◌+◌, ◌-◌, ◌==◌, if◌then◌else◌, codes, length, min, slice_get, Bool, true, false, List, [], ◌∷◌, ◌++◌, Option, Some, None}
+use Rattle.std.specs.Prelude.{ℕ, ◌+◌, ◌-◌, ◌==◌, if◌then◌else◌, codes, length, min, Bool, true, false, List, [], ◌∷◌, ◌++◌, Option, Some, None}
 use Rattle.std.specs.List.{flat_map, enumerate_from, range_with_len, slice_range}
 use Rattle.std.specs.Int.{bit_at}
 use Rattle.std.specs.Fmt.{decimal}
@@ -17,6 +17,7 @@ use Rattle.handler_code.specs.declared.code.Kind2.TheVariants as on
 use Rattle.handler_code.specs.declared.code.OpCode.{OpCode}
 use Rattle.handler_code.specs.declared.code.OpCode.TheVariants as op
 use Rattle.handler_code.specs.declared.code.Rest.{Rest}
+use Rattle.code_walks.specs.Parts.{end_of}
 
 -- ---- names
 
@@ -108,13 +109,9 @@ abbrev pub head_line : Protocol → Door → List ℕ
 head_line p d =
     of (codes "handler") (of (state_name p d.state) (of (trigger_name p d.on) (of (codes "slots") (decimal d.slots ++ 10 ∷ []))))
 
-abbrev pub place_of : Option Door → ℕ → ℕ
-place_of (Some d) end = d.at
-place_of None end = end
-
--- where the handler of this door ends: where the next one begins, at the latest at the end of all
-abbrev pub end_of : Code → ℕ → ℕ
-end_of code door = min (place_of (slice_get code.doors (door + 1)) (length code.ops)) (length code.ops)
+-- where the handler of this door ends, at the latest at the end of all ops
+abbrev pub end_within : Code → ℕ → ℕ
+end_within code door = min (end_of code door) (length code.ops)
 
 abbrev pub ops_text : Protocol → ℕ → List OpCode → List ℕ
 ops_text p at ops = flat_map (λ q. op_line p (at + q.0) q.1) (enumerate_from 0 ops)
@@ -124,7 +121,7 @@ rests_text door rests = flat_map (rest_of door) (enumerate_from 0 rests)
 
 abbrev pub door_text : Protocol → Code → ℕ × Door → List ℕ
 door_text p code q =
-    head_line p q.1 ++ (ops_text p q.1.at (slice_range code.ops q.1.at (end_of code q.0)) ++ rests_text q.0 code.rests)
+    head_line p q.1 ++ (ops_text p q.1.at (slice_range code.ops q.1.at (end_within code q.0)) ++ rests_text q.0 code.rests)
 
 -- handler after handler, and a last line
 abbrev pub text_of : Protocol → Code → List ℕ

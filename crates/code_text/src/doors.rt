@@ -1,6 +1,6 @@
 ghost use Rattle.std.specs.Prelude.{◌≡◌, ◌<◌, ◌≤◌, ◌++◌, IfOk, OnOk, length};
 ghost use Rattle.std.specs.List.{flat_map, enumerate_from, slice_range};
-ghost use Rattle.code_text.specs.Texts.{door_text, end_of, head_line, text_of, trigger_name};
+ghost use Rattle.code_text.specs.Texts.{door_text, end_within, head_line, text_of, trigger_name};
 
 use crate::ops::add_ops;
 use crate::rests::add_rests;
@@ -34,9 +34,9 @@ fn add_head(out: &mut Text, names: &Names, door: &Door) -> Result<(), Memory>
 }
 
 /// Where the handler of this door ends.
-fn end_of(code: &Code, door: usize) -> usize
+fn end_within(code: &Code, door: usize) -> usize
     requires { door < length code.now.doors }
-    ensures { result ≡ end_of code.now door }
+    ensures { result ≡ end_within code.now door }
 {
     let end = code.ops.len();
     let doors = code.doors.items();
@@ -66,7 +66,7 @@ fn add_door(
 {
     add_head(out, names, door)?;
     let at = door.at as usize;
-    let ops = ops_between(code.ops.items(), at, end_of(code, number));
+    let ops = ops_between(code.ops.items(), at, end_within(code, number));
     add_ops(out, names, at, ops)?;
     add_rests(out, number, code.rests.items())
 }

@@ -30,12 +30,12 @@ with_sets zero types = types
 with_sets (suc n) types = with_sets n types ++ ty.Set ∷ []
 
 -- a Set in each slot after these, which are those of the loops
-abbrev pub filled : ℕ → List ValType → List ValType
-filled slots types = with_sets (slots - length types) types
+abbrev pub filled_types : ℕ → List ValType → List ValType
+filled_types slots types = with_sets (slots - length types) types
 
 -- the types of the variables of the door's handler, and then of the sets of its loops
 abbrev pub slot_types : Protocol → Door → List ValType
-slot_types p door = filled door.slots (variable_types p (slice_get p.states door.state) (handler_of p door))
+slot_types p door = filled_types door.slots (variable_types p (slice_get p.states door.state) (handler_of p door))
 
 abbrev pub type_at : List ValType → ℕ → ValType
 type_at types k = unwrap_or (slice_get types k) ty.Int

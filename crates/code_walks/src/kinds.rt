@@ -2,7 +2,7 @@ ghost use Rattle.std.specs.Prelude.{◌≡◌, [], ◌∷◌, ◌++◌, IfOk, Ma
 ghost use Rattle.teapot_tree.specs.Rules.{params_of};
 ghost use Rattle.teapot_tree.specs.Scopes.{args_of, same_type};
 ghost use Rattle.teapot_meaning.specs.Fits.{type_of, types_in, types_of};
-ghost use Rattle.code_walks.specs.Kinds.{filled, gives, has_loop_slots, is_mistyped, is_typed, needs, needs_two, pushed_on, slot_types, top_type, type_at, type_of_two, types_after, with_sets, without};
+ghost use Rattle.code_walks.specs.Kinds.{filled_types, gives, has_loop_slots, is_mistyped, is_typed, needs, needs_two, pushed_on, slot_types, top_type, type_at, type_of_two, types_after, with_sets, without};
 ghost use Rattle.code_walks.specs.Least.{IsLeast};
 ghost use Rattle.code_walks.specs.Parts.{Within};
 

@@ -5,7 +5,7 @@ use Rattle.tw_base.specs.Lists.{Each}
 use Rattle.cont_store.specs.declared.record.Record.{Record}
 use Rattle.cont_store.specs.declared.record.RecordKey.{RecordKey}
 use Rattle.cont_store.specs.Store.{Store, record_at}
-use Rattle.handler_vm.specs.Chains.{Chained, heads, IsChain, IsWhole, records_of}
+use Rattle.handler_vm.specs.Chains.{Chained, heads, IsChain, IsWholeRecord, records_of}
 use Rattle.handler_vm.proofs.Chaining.{chain_few, chain_is, moved}
 use Rattle.compiled_handlers_tests.specs.Named.{IsNamed}
 
@@ -14,7 +14,7 @@ pub same_chain : (words : ℕ) (old new : Store) (key : Option RecordKey) → ((
 same_chain words old new key same chain =
     let there : Chained new key (records_of old key) = moved chain.named (λ k s h low. same k ∙ h) in
     let is : records_of new key ≡ records_of old key = chain_is there 8 (chain_few old key 8) in
-    (record { named = subst (Chained new key) (sym is) there; whole = subst (Each (IsWhole words)) (sym is) chain.whole }, is)
+    (record { named = subst (Chained new key) (sym is) there; whole = subst (Each (IsWholeRecord words)) (sym is) chain.whole }, is)
 
 -- ---- the newest record, and the older ones
 

@@ -29,7 +29,7 @@ use Rattle.handler_code.specs.declared.code.Door.{Door}
 use Rattle.handler_code.specs.declared.code.OpCode.{OpCode}
 use Rattle.handler_code.specs.declared.code.OpCode.TheVariants as op
 use Rattle.handler_code.specs.Live.{HasOp}
-use Rattle.code_walks.specs.Kinds.{breaks_types, filled, gives, has_loop_slots, is_typed, needs, pushed_on, slot_types, top_type, types_after, types_before, variable_types}
+use Rattle.code_walks.specs.Kinds.{breaks_types, filled_types, gives, has_loop_slots, is_typed, needs, pushed_on, slot_types, top_type, types_after, types_before, variable_types}
 use Rattle.code_walks.specs.Parts.{AtOp, end_of, op_at, part_of}
 use Rattle.code_walks.specs.Parts.{handler_of}
 use Rattle.compiled_meaning.specs.Follows.{Evaluates, put_op, slot_of}
@@ -284,11 +284,11 @@ module _ (p : Protocol) (code : Code) (a : IsAccepted p) (c : IsCode p code) whe
       ap (types_before p code slots from) next ∙ ap (λ q. types_after p slots q (before slots from at)) is
 
   module _ (number : ℕ) (door : Door) (x : Handled p code number door) where
-    slots_of_door : slot_types p door ≡ filled door.slots (handler_types p x.entry.state x.entry.handler)
+    slots_of_door : slot_types p door ≡ filled_types door.slots (handler_types p x.entry.state x.entry.handler)
     slots_of_door =
         let o = x.of in
         let state : slice_get p.states door.state ≡ Some x.entry.state = ap (slice_get p.states) x.state ∙ o.is_state in
-        ap (λ s. filled door.slots (variable_types p s (handler_of p door))) state ∙ ap (λ q. filled door.slots (variable_types p (Some x.entry.state) q)) (handler_is p code a c number door x)
+        ap (λ s. filled_types door.slots (variable_types p s (handler_of p door))) state ∙ ap (λ q. filled_types door.slots (variable_types p (Some x.entry.state) q)) (handler_is p code a c number door x)
 
     types_kept : (at : ℕ) → door.at ≤ at → at < end_of code number → breaks_types p code (part_of code number door) at ≡ true → ⊥
     types_kept at l u e =

@@ -27,7 +27,7 @@ use Rattle.teapot_meaning.proofs.Variables.{info_found, inner, inner_named, inne
 use Rattle.teapot_meaning.proofs.Visible.{apart_parts, name_in, visible_apart, visible_free}
 use Rattle.handler_code.specs.declared.code.OpCode.{OpCode}
 use Rattle.handler_code.specs.declared.code.OpCode.TheVariants as op
-use Rattle.code_walks.specs.Kinds.{filled, gives, needs, type_at, with_sets}
+use Rattle.code_walks.specs.Kinds.{filled_types, gives, needs, type_at, with_sets}
 use Rattle.compiled_meaning.specs.Follows.{get_op, put_op, slot_of}
 use Rattle.compiled_rules.proofs.Doorways.{is_declared}
 use Rattle.compiled_rules.proofs.Spans.{before_or}
@@ -204,7 +204,7 @@ pub record SlotsFit (p : Protocol) (t : State) (h : Handler) (slots : List ValTy
 
 module _ (p : Protocol) (a : IsAccepted p) (t : State) (i : Contains p.states t) (h : Handler) (j : Contains t.handlers h) (width : ℕ) where
   abbrev slots : List ValType
-  slots = filled width (types_in p t h)
+  slots = filled_types width (types_in p t h)
 
   slot_typed : (k : ℕ) (u : ValType) → slice_get (types_in p t h) k ≡ Some u → type_at slots k ≡ u
   slot_typed k u e = ap (λ o. unwrap_or o ty.Int) (sets_front (width - length (types_in p t h)) (types_in p t h) k u e)

@@ -21,23 +21,23 @@ Avoids s key (suc depth) None = Unit {0}
 Avoids s key (suc depth) (Some k) = (k ≢ key) × OfParent (λ parent. Avoids s key depth parent) (record_at s k)
 
 -- each key of the chain names a record
-abbrev pub IsWhole : Store → ℕ → Option RecordKey → Type 0
-IsWhole s zero from = Unit {0}
-IsWhole s (suc depth) None = Unit {0}
-IsWhole s (suc depth) (Some k) = IsLinked (λ parent. IsWhole s depth parent) (record_at s k)
+abbrev pub NamesRecords : Store → ℕ → Option RecordKey → Type 0
+NamesRecords s zero from = Unit {0}
+NamesRecords s (suc depth) None = Unit {0}
+NamesRecords s (suc depth) (Some k) = IsLinked (λ parent. NamesRecords s depth parent) (record_at s k)
 
 -- what a free key is given is in no chain that stands
-pub Avoids-free : (s : Store) (key : RecordKey) → record_at s key ≡ None → (depth : ℕ) (from : Option RecordKey) → IsWhole s depth from → Avoids s key depth from
+pub Avoids-free : (s : Store) (key : RecordKey) → record_at s key ≡ None → (depth : ℕ) (from : Option RecordKey) → NamesRecords s depth from → Avoids s key depth from
 Avoids-free s key free zero from whole = tt
 Avoids-free s key free (suc depth) None whole = tt
 Avoids-free s key free (suc depth) (Some k) whole =
     (λ same. not_free (record_at s k) (ap (record_at s) same ∙ free) whole, older (λ parent stands. Avoids-free s key free depth parent stands) (record_at s k) whole)
   where
-    not_free : (named : Option Record) → named ≡ None → IsLinked (λ parent. IsWhole s depth parent) named → ⊥
+    not_free : (named : Option Record) → named ≡ None → IsLinked (λ parent. NamesRecords s depth parent) named → ⊥
     not_free None is linked = linked
     not_free (Some r) is linked = cc
 
-    older : ((parent : Option RecordKey) → IsWhole s depth parent → Avoids s key depth parent) → (named : Option Record) → IsLinked (λ parent. IsWhole s depth parent) named → OfParent (λ parent. Avoids s key depth parent) named
+    older : ((parent : Option RecordKey) → NamesRecords s depth parent → Avoids s key depth parent) → (named : Option Record) → IsLinked (λ parent. NamesRecords s depth parent) named → OfParent (λ parent. Avoids s key depth parent) named
     older rest None linked = tt
     older rest (Some r) linked = rest r.parent linked
 

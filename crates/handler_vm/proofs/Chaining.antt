@@ -11,7 +11,7 @@ use Rattle.cont_store.specs.declared.record.Record.{Record}
 use Rattle.cont_store.specs.declared.record.RecordKey.{RecordKey}
 use Rattle.cont_store.specs.Store.{Changes, Store, chain_of, chained, record_at}
 use Rattle.handler_code.specs.Doors.{filled}
-use Rattle.handler_vm.specs.Chains.{Chained, ends, heads, IsOn, newest, older, IsWhole, KeepsOthers, saved_of, Spares, widened}
+use Rattle.handler_vm.specs.Chains.{Chained, ends, heads, IsOn, newest, older, IsWholeRecord, KeepsOthers, saved_of, Spares, widened}
 
 -- ---- the records of a chain are those that are found
 
@@ -74,7 +74,7 @@ put_on {store} {other} {key} {r} {parent} {rs} free change is d chain =
 all_wide : (xs : List Value) → length xs ≡ 21 → filled 21 xs ≡ xs
 all_wide xs e = let none : 21 - length xs ≡ 0 = omega (arith, e) in ap (λ n. xs ++ replicate n (Int 0)) none ∙ append-nil xs
 
-pub widened_all : (p : Protocol) (words : ℕ) (rs : List Record) → Each (IsWhole words) rs → map (saved_of p) rs ≡ map widened (map (saved_of p) rs)
+pub widened_all : (p : Protocol) (words : ℕ) (rs : List Record) → Each (IsWholeRecord words) rs → map (saved_of p) rs ≡ map widened (map (saved_of p) rs)
 widened_all p words [] whole = refl
 widened_all p words (r ∷ rs) whole =
     let here : saved_of p r ≡ widened (saved_of p r) = λ j. record (saved_of p r) { values = sym (all_wide r.values whole.0.values) j } in

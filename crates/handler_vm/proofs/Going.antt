@@ -13,7 +13,7 @@ use Rattle.tw_base.specs.declared.message.Message.{Message}
 use Rattle.cont_store.specs.declared.record.Record.{Record}
 use Rattle.cont_store.specs.Store.{Store}
 use Rattle.handler_vm.specs.declared.running.Running.{Running}
-use Rattle.handler_vm.specs.Chains.{IsWhole, Spares, records_of, saved_from, saved_of}
+use Rattle.handler_vm.specs.Chains.{IsWholeRecord, Spares, records_of, saved_from, saved_of}
 use Rattle.handler_vm.specs.Inside.{IsAtOp, IsSound, OnNext, SameBlock, WillStop, machine_of}
 use Rattle.handler_vm.specs.Sending.{IsUnsent}
 use Rattle.handler_vm.specs.Room.{HasPlaces}
@@ -83,7 +83,7 @@ module _ (p : Protocol) (code : Code) (width : ℕ → ℕ) (h : HasPlaces p cod
 
 -- ---- the run's place
 
-all_full : (p : Protocol) (words : ℕ) (rs : List Record) → Each (IsWhole words) rs → Each (λ (s : Saved). length s.values ≡ 21) (map (saved_of p) rs)
+all_full : (p : Protocol) (words : ℕ) (rs : List Record) → Each (IsWholeRecord words) rs → Each (λ (s : Saved). length s.values ≡ 21) (map (saved_of p) rs)
 all_full p words [] whole = tt
 all_full p words (r ∷ rs) whole = (whole.0.values, all_full p words rs whole.1)
 

@@ -7,7 +7,7 @@ use Rattle.cont_store.specs.declared.record.Record.{Record}
 use Rattle.cont_store.specs.declared.record.RecordKey.{RecordKey}
 use Rattle.cont_store.specs.Store.{Store, record_at}
 use Rattle.handler_vm.specs.Apart.{AreApart, AreChains, ChainsStayApart}
-use Rattle.handler_vm.specs.Chains.{Chained, ends, heads, IsChain, IsOn, IsWhole, newest, older, KeepsOthers, records_of}
+use Rattle.handler_vm.specs.Chains.{Chained, ends, heads, IsChain, IsOn, IsWholeRecord, newest, older, KeepsOthers, records_of}
 use Rattle.handler_vm.proofs.Chaining.{chain_few, chain_is, on_named}
 
 module _ (old new : Store) (was now : Option RecordKey) (keeps : KeepsOthers old new was now) where
@@ -35,7 +35,7 @@ module _ (old new : Store) (was now : Option RecordKey) (keeps : KeepsOthers old
   still_chain : (words : ℕ) (o : Option RecordKey) → IsChain words old o → AreApart old was o → IsChain words new o
   still_chain words o chain apart =
       let same = sym (same_records words o chain apart) in
-      record { named = subst (Chained new o) same (still chain.named apart); whole = subst (Each (IsWhole words)) same chain.whole }
+      record { named = subst (Chained new o) same (still chain.named apart); whole = subst (Each (IsWholeRecord words)) same chain.whole }
 
 turned : {s : Store} {a b : Option RecordKey} → AreApart s a b → AreApart s b a
 turned h k p q = h k q p

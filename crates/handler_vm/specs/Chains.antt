@@ -29,7 +29,7 @@ IsFull words None = ⊤
 IsFull words (Some d) = length d ≡ words
 
 -- all places of the record are there, and its data are a whole block
-pub record IsWhole (words : ℕ) (r : Record) : Type 0 where
+pub record IsWholeRecord (words : ℕ) (r : Record) : Type 0 where
   pub values : length r.values ≡ 21
   pub args : length r.args ≡ 4
   pub came : IsFull words r.came
@@ -37,7 +37,7 @@ pub record IsWhole (words : ℕ) (r : Record) : Type 0 where
 -- the store names each record of the chain, and each is whole
 pub record IsChain (words : ℕ) (store : Store) (key : Option RecordKey) : Type 0 where
   pub named : Chained store key (records_of store key)
-  pub whole : Each (IsWhole words) (records_of store key)
+  pub whole : Each (IsWholeRecord words) (records_of store key)
 
 -- a record as the machine of ops sees it; its slots are all 21
 abbrev pub saved_of : Protocol → Record → Saved

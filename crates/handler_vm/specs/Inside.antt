@@ -19,8 +19,8 @@ use Rattle.handler_vm.specs.Sending.{IsUnsent, Sends, out_of}
 use Rattle.handler_vm.specs.declared.cell.Cell.{Cell}
 use Rattle.handler_vm.specs.declared.running.Running.{Running}
 
-abbrev pub around_of : Protocol → Running → List Message → Around
-around_of p r sent = record {
+abbrev pub surroundings : Protocol → Running → List Message → Around
+surroundings p r sent = record {
   me = r.me;
   home = r.home;
   block = r.block;
@@ -40,7 +40,7 @@ machine_of p r sent chain = record {
   slots = r.slots;
   stack = r.stack;
   came = r.came;
-  around = around_of p r sent;
+  around = surroundings p r sent;
   state = r.state;
   args = r.args;
   chain = chain;
@@ -85,7 +85,7 @@ pub record IsSound (p : Protocol) (r : Running) (store : Store) : Type 0 where
 
 -- the run, after an op that ends it, is the stop
 pub record IsStop (p : Protocol) (r : Running) (sent : List Message) (store : Store) (end : End) (e : Stopped) : Type 0 where
-  pub around : e.around ≡ around_of p r sent
+  pub around : e.around ≡ surroundings p r sent
   pub state : e.state ≡ r.state
   pub args : e.args ≡ r.args
   pub arity : length r.args ≡ state_arity (slice_get p.states r.state)

@@ -8,7 +8,7 @@ use Rattle.cont_store.specs.declared.record.Record.{Record}
 use Rattle.cont_store.specs.declared.record.RecordKey.{RecordKey}
 use Rattle.cont_store.specs.Store.{Store, chain_of, chained, places_of, record_at}
 use Rattle.handler_vm.specs.Apart.{AreChains}
-use Rattle.handler_vm.specs.Chains.{Chained, ends, heads, IsChain, IsOn, newest, older, IsWhole, records_of, saved_from, saved_of}
+use Rattle.handler_vm.specs.Chains.{Chained, ends, heads, IsChain, IsOn, newest, older, IsWholeRecord, records_of, saved_from, saved_of}
 use Rattle.handler_code.specs.Machine.{Saved}
 use Rattle.handler_vm.specs.Leaves.{kept_of}
 use Rattle.compiled_meaning.specs.Whole.{CellStands}
@@ -54,7 +54,7 @@ pub is_chain_same : (words : ℕ) (s : Store) (k : ℕ) (key : Option RecordKey)
     → IsChain words (sparing s k) key
 is_chain_same words s k key h = record {
   named = subst (λ (rs : List Record). Chained (sparing s k) key rs) (sym (records_same s k key)) (chained_same s k h.named);
-  whole = subst (Each (IsWhole words)) (sym (records_same s k key)) h.whole;
+  whole = subst (Each (IsWholeRecord words)) (sym (records_same s k key)) h.whole;
 }
 
 on_back : (s : Store) (k : ℕ) {key : Option RecordKey} {other : RecordKey} → IsOn (sparing s k) key other → IsOn s key other

@@ -94,7 +94,7 @@ pub record IsAtRest (s : StillShown) : Type 0 where
   pub idle : (i : ℕ) (n : Shown) → slice_get s.nodes i ≡ Some n → list_any (λ b. b) (node_tests n) ≡ false
 
 -- What holds of them by themselves: a row for each sender with a queue for each of sixteen places, and a state that they are.
-pub record IsWhole (s : StillShown) : Type 0 where
+pub record AreWhole (s : StillShown) : Type 0 where
   pub setup : IsSetup s.setup
   pub rows : length s.rows ≡ s.setup.shape.nodes
   pub places : Each (λ row. length row ≡ 16) s.rows

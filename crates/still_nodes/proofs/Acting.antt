@@ -18,7 +18,7 @@ use Rattle.dsm_runs.specs.Worlds.{Runs, takes_from}
 use Rattle.node_acts.proofs.Sparing.{tally_same}
 use Rattle.node_meaning.specs.Nodes.{Shown, front_at, onto, tally_of, test_of}
 use Rattle.still_meaning.specs.Laws.{IsFrontOf, node_of}
-use Rattle.still_meaning.specs.Stills.{GoesThrough, IsSpread, IsWhole, Passes, StillShown, flight, front_of, row_at, unpushed}
+use Rattle.still_meaning.specs.Stills.{GoesThrough, IsSpread, AreWhole, Passes, StillShown, flight, front_of, row_at, unpushed}
 use Rattle.still_meaning.proofs.Going.{through_more}
 use Rattle.still_meaning.proofs.Made.{made_through, taken_at}
 use Rattle.still_meaning.proofs.Passing.{passes_still, passes_through, set_here, set_other}
@@ -177,7 +177,7 @@ within_node nodes (event.Instr i) l = l
 within_node nodes (event.Redeliver i) l = l
 within_node nodes (event.Deliver i f c) l = l.0
 
-pub event_seen : (s : StillShown) (w : IsWhole s) (e : Event) (i : ℕ) (n : Shown) →
+pub event_seen : (s : StillShown) (w : AreWhole s) (e : Event) (i : ℕ) (n : Shown) →
     i ≡ node_of e → IsWithin s.setup.shape.nodes e → n ≡ get_or s.nodes i n → slice_get s.nodes (node_of e) ≡ Some n
 event_seen s w e i n at within is =
     node_seen s.nodes i (node_of e) n at (in_nodes s w (node_of e) (within_node s.setup.shape.nodes e within)) is
@@ -188,7 +188,7 @@ pub record MayAct (n : Shown) (e : Event) : Type 0 where
   pub within : IsWithin n.setup.shape.nodes e
   pub may : test_of n e ≡ true
 
-pub may_act : (a s : StillShown) (w : IsWhole a) (e : Event) (i : ℕ) (n : Shown) → a ≡ s → MayMake s e → i ≡ node_of e →
+pub may_act : (a s : StillShown) (w : AreWhole a) (e : Event) (i : ℕ) (n : Shown) → a ≡ s → MayMake s e → i ≡ node_of e →
     n ≡ get_or a.nodes i n → MayAct n e
 may_act a s w e i n view may at is =
     let here : MayMake a e = subst (λ (x : StillShown). MayMake x e) (sym view) may in
@@ -199,7 +199,7 @@ may_act a s w e i n view may at is =
       may = here.1 n there;
     }
 
-module _ (a s : StillShown) (w : IsWhole a) (e : Event) (i : ℕ) (old new : Shown) (taken : List Entry) (view : a ≡ s)
+module _ (a s : StillShown) (w : AreWhole a) (e : Event) (i : ℕ) (old new : Shown) (taken : List Entry) (view : a ≡ s)
     (may : MayMake s e) (at : i ≡ node_of e) (is : old ≡ get_or a.nodes i old) where
   placed : slice_get a.nodes i ≡ Some old
   placed =
@@ -217,7 +217,7 @@ module _ (a s : StillShown) (w : IsWhole a) (e : Event) (i : ℕ) (old new : Sho
   room_here room same = subst (λ (t : List Entry). Passes a (after a i new t)) (sym same) (room_passes a i old new placed room)
 
   pub act_whole : (r : Result (Unit {0}) Memory) → OnOk r (NodeActs old new a.taken taken e) → OnErr r (MakesRoom old new) →
-      OnErr r (taken ≡ a.taken) → IsWhole (after a i new taken)
+      OnErr r (taken ≡ a.taken) → AreWhole (after a i new taken)
   act_whole (Ok x) acts room same =
       let ran = (acts_here acts).made.goes.ran w.state w.still in
       record { setup = w.setup; rows = w.rows; places = w.places; state = ran.0; still = ran.2 }

@@ -15,7 +15,7 @@ use Rattle.node_meaning.specs.Nodes.{Shown, tally_of}
 use Rattle.node_meaning.specs.Tallies.{Counts, Tally, first_tally}
 use Rattle.still_meaning.specs.Gathers.{GatheredShown, IsGathered, log_of}
 use Rattle.still_meaning.specs.Reading.{end_at, tag_at, word_at}
-use Rattle.still_meaning.specs.Stills.{IsAtRest, IsNodeAt, IsStill, IsWhole, StillShown, flight, tallies, tally_in}
+use Rattle.still_meaning.specs.Stills.{IsAtRest, IsNodeAt, IsStill, AreWhole, StillShown, flight, tallies, tally_in}
 use Rattle.still_meaning.proofs.Reading.{stands_as}
 use Rattle.still_nodes.proofs.Places.{node_there}
 use Rattle.still_nodes.proofs.Quiet.{rest_is_quiet}
@@ -55,7 +55,7 @@ pub record IsRead (a : StillShown) (r : GatheredShown) : Type 0 where
   pub finals : r.finals ≡ told_finals a.setup.shape.nodes (end_at a)
   pub words : r.words ≡ told_words a.setup.shape (tag_at a) (word_at a)
 
-module _ (a : StillShown) (g : World) (r : GatheredShown) (whole : IsWhole a) (rest : IsAtRest a) (read : IsRead a r)
+module _ (a : StillShown) (g : World) (r : GatheredShown) (whole : AreWhole a) (rest : IsAtRest a) (read : IsRead a r)
     (s : IsStill a g) where
   each_replayed : (i : ℕ) → i < a.setup.shape.nodes → LeadsTo a.setup a.code i (log_of r.logs i) (s.ends i) (tallies a i)
   each_replayed i l =

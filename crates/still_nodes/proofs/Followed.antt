@@ -10,7 +10,7 @@ use Rattle.dsm_runs.specs.Setups.{Setup}
 use Rattle.dsm_runs.specs.Worlds.{World, event_of}
 use Rattle.dsm_runs.proofs.Scheduling.{none_left}
 use Rattle.event_masks.specs.Told.{told_events}
-use Rattle.still_meaning.specs.Stills.{GoesThrough, IsAtRest, IsSpread, IsStill, IsWhole, Passes, StillShown}
+use Rattle.still_meaning.specs.Stills.{GoesThrough, IsAtRest, IsSpread, IsStill, AreWhole, Passes, StillShown}
 use Rattle.still_meaning.proofs.Going.{begun_none, begun_through, settled}
 use Rattle.still_meaning.proofs.Passing.{passes_through}
 use Rattle.still_nodes.specs.Driving.{HasFollowed, HasSettled}
@@ -21,7 +21,7 @@ use Rattle.still_nodes.proofs.Composed.{after_none, then_none}
 
 -- ---- what the schedule takes next
 
-module _ (s : StillShown) (words : List ℕ) (stride turn : ℕ) (w : IsWhole s) (tells : Tells s words) (spread : IsSpread s) where
+module _ (s : StillShown) (words : List ℕ) (stride turn : ℕ) (w : AreWhole s) (tells : Tells s words) (spread : IsSpread s) where
   pub may_make_chosen : (o : Option Event) → o ≡ chosen stride turn (told_events words) → IfSome o (MayMake s)
   may_make_chosen None is = tt
   may_make_chosen (Some e) is = may_be_made s w.state words stride turn e w.still tells spread (sym is)

@@ -3,7 +3,7 @@ use Rattle.std.proofs.Common.{◌≡◌, ◌∙◌, ℕ, ◌<◌, length, refl, 
 use Rattle.tw_base.specs.Lists.{Each}
 use Rattle.dsm_runs.specs.Setups.{IsSetup, Setup}
 use Rattle.still_meaning.proofs.Passing.{passes_still}
-use Rattle.still_meaning.specs.Stills.{IsWhole, Passes, StillShown}
+use Rattle.still_meaning.specs.Stills.{AreWhole, Passes, StillShown}
 
 pub passes_none : (a : StillShown) → Passes a a
 passes_none a = record {
@@ -40,8 +40,8 @@ passes_more a b c p q =
     }
 
 -- what holds of all by themselves holds after
-pub whole_after : (a b : StillShown) → IsWhole a → Passes a b → length b.rows ≡ length a.rows →
-    Each (λ row. length row ≡ 16) b.rows → IsWhole b
+pub whole_after : (a b : StillShown) → AreWhole a → Passes a b → length b.rows ≡ length a.rows →
+    Each (λ row. length row ≡ 16) b.rows → AreWhole b
 whole_after a b w p count places = record {
   setup = subst (λ (s : Setup). IsSetup s) (sym p.same_setup) w.setup;
   rows = count ∙ w.rows ∙ ap (λ (s : Setup). s.shape.nodes) (sym p.same_setup);

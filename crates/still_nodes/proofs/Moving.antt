@@ -13,7 +13,7 @@ use Rattle.node_meaning.specs.Nodes.{Shown, front_at, onto, accepted_at}
 use Rattle.node_meaning.specs.Stands.{IsFit}
 use Rattle.still_meaning.proofs.Handing.{next_number, on_it, popped, put_behind, put_first, row_put}
 use Rattle.still_meaning.specs.Laws.{holding}
-use Rattle.still_meaning.specs.Stills.{IsNodeAt, IsWhole, Passes, StillShown, flight, front_of, row_at, unpushed}
+use Rattle.still_meaning.specs.Stills.{IsNodeAt, AreWhole, Passes, StillShown, flight, front_of, row_at, unpushed}
 use Rattle.still_nodes.specs.Handing.{Accepts, HandsTo, IsFilled, IsFirstOut, LeavesOthers, MayHandOver, Pops, queue_at, waiting_of, waits_at, with_queue, MayAccept}
 use Rattle.still_nodes.proofs.Fronts.{NodesStay, accept_fronts, accept_stays, accept_waits, count_same, get_here, get_other, no_front, nodes_more, on_its_own, one_stays, onto_more, onto_none, pop_fronts, pop_stays, pop_waits, rows_count, rows_places, small_place, unpushed_is}
 use Rattle.still_nodes.proofs.Places.{node_there}
@@ -21,7 +21,7 @@ use Rattle.still_nodes.proofs.Lists.{each_get, first_rest, left_empty, right_emp
 
 -- ---- what is known of all
 
-module _ (a : StillShown) (w : IsWhole a) where
+module _ (a : StillShown) (w : AreWhole a) where
   pub is_node : (i : ℕ) (n : Shown) → slice_get a.nodes i ≡ Some n → IsNodeAt a i n (w.still.ends i)
   is_node i n there = w.still.nodes i n there
 
@@ -44,7 +44,7 @@ module _ (a : StillShown) (w : IsWhole a) where
 
 -- ---- the message that has waited longest
 
-module _ (a : StillShown) (w : IsWhole a) (k : ℕ) (m : Message) (o : IsFirstOut a.nodes k m) where
+module _ (a : StillShown) (w : AreWhole a) (k : ℕ) (m : Message) (o : IsFirstOut a.nodes k m) where
   pub from_is : m.from ≡ k
   from_is = o.fit.on.from ∙ (is_node a w k o.sender o.there).me
 
@@ -173,7 +173,7 @@ pop_holds a ns k m p from f t c =
 
 -- ---- to its receiver
 
-module _ (a b : StillShown) (w : IsWhole a) (k : ℕ) (lk : k < a.setup.shape.nodes) (m : Message) (o : IsFirstOut a.nodes k m)
+module _ (a b : StillShown) (w : AreWhole a) (k : ℕ) (lk : k < a.setup.shape.nodes) (m : Message) (o : IsFirstOut a.nodes k m)
     (between : List Shown) (p : Pops a.nodes between k m) (x : Accepts between b.nodes m)
     (clear : front_of (slice_get a.nodes m.to) m.from m.chan ++ queue_at a.rows m.from m.to m.chan ≡ [])
     (rows : b.rows ≡ a.rows) where
@@ -247,7 +247,7 @@ module _ (a b : StillShown) (w : IsWhole a) (k : ℕ) (lk : k < a.setup.shape.no
 
 -- ---- behind those of its wire
 
-module _ (a b : StillShown) (w : IsWhole a) (k : ℕ) (lk : k < a.setup.shape.nodes) (m : Message) (o : IsFirstOut a.nodes k m)
+module _ (a b : StillShown) (w : AreWhole a) (k : ℕ) (lk : k < a.setup.shape.nodes) (m : Message) (o : IsFirstOut a.nodes k m)
     (p : Pops a.nodes b.nodes k m)
     (busy : front_of (slice_get a.nodes m.to) m.from m.chan ++ queue_at a.rows m.from m.to m.chan ≡ [] → ⊥)
     (rows : b.rows ≡ with_queue a.rows m.from m.to m.chan (queue_at a.rows m.from m.to m.chan ++ m ∷ [])) where

@@ -11,7 +11,7 @@ use Rattle.node_meaning.specs.Nodes.{Shown}
 use Rattle.node_meaning.specs.Stands.{IsWell}
 use Rattle.still_nodes.proofs.Lists.{present}
 use Rattle.still_meaning.specs.Reading.{word_at, word_of_node}
-use Rattle.still_meaning.specs.Stills.{IsSpread, IsStill, IsWhole, StillShown}
+use Rattle.still_meaning.specs.Stills.{IsSpread, IsStill, AreWhole, StillShown}
 use Rattle.still_nodes.specs.Handing.{waiting_of, waits_at}
 
 pub node_there : (a : StillShown) (g : World) → IsStill a g → (i : ℕ) → i < a.setup.shape.nodes →
@@ -19,11 +19,11 @@ pub node_there : (a : StillShown) (g : World) → IsStill a g → (i : ℕ) → 
 node_there a g s i l = present a.nodes i (subst (λ k. i < k) (sym s.count) l)
 
 -- each node has the setup of the machine
-pub setup_there : (a : StillShown) (i : ℕ) (n : Shown) → IsWhole a → slice_get a.nodes i ≡ Some n → n.setup ≡ a.setup
+pub setup_there : (a : StillShown) (i : ℕ) (n : Shown) → AreWhole a → slice_get a.nodes i ≡ Some n → n.setup ≡ a.setup
 setup_there a i n w there = (w.still.nodes i n there).setup
 
 -- a block of the machine is one of its node's copies
-pub block_there : (a : StillShown) (i block : ℕ) (n : Shown) → IsWhole a → slice_get a.nodes i ≡ Some n → IsWell n →
+pub block_there : (a : StillShown) (i block : ℕ) (n : Shown) → AreWhole a → slice_get a.nodes i ≡ Some n → IsWell n →
     block < a.setup.shape.blocks → block < n.copies.shape.blocks
 block_there a i block n w there well l =
     let same : n.copies.shape ≡ a.setup.shape = well.shape ∙ ap (λ (s : Setup). s.shape) (setup_there a i n w there) in
@@ -38,13 +38,13 @@ word_there a i address n there well =
     ∙ ap (λ (z : Sizes). slice_index (block_words n.copies (address / z.words)) (address % z.words)) well.shape
     ∙ sym (ap (λ o. word_of_node o address) there)
 
-pub address_there : (a : StillShown) (i address : ℕ) (n : Shown) → IsWhole a → slice_get a.nodes i ≡ Some n → IsWell n →
+pub address_there : (a : StillShown) (i address : ℕ) (n : Shown) → AreWhole a → slice_get a.nodes i ≡ Some n → IsWell n →
     address < a.setup.shape.words * a.setup.shape.blocks → address < n.copies.shape.words * n.copies.shape.blocks
 address_there a i address n w there well l =
     let same : n.copies.shape ≡ a.setup.shape = well.shape ∙ ap (λ (s : Setup). s.shape) (setup_there a i n w there) in
     subst (λ (z : Sizes). address < z.words * z.blocks) (sym same) l
 
-pub shape_there : (a : StillShown) (i : ℕ) (n : Shown) → IsWhole a → slice_get a.nodes i ≡ Some n → n.setup.shape ≡ a.setup.shape
+pub shape_there : (a : StillShown) (i : ℕ) (n : Shown) → AreWhole a → slice_get a.nodes i ≡ Some n → n.setup.shape ≡ a.setup.shape
 shape_there a i n w there = ap (λ (s : Setup). s.shape) (setup_there a i n w there)
 
 -- ---- where all is spread

@@ -16,7 +16,7 @@ use Rattle.node_meaning.specs.Nodes.{Shown, accepted_at, front_at, onto, tally_o
 use Rattle.node_meaning.specs.Stands.{IsFit}
 use Rattle.node_meaning.specs.Tallies.{Counts, first_tally}
 use Rattle.still_meaning.proofs.Handing.{next_number, refilled}
-use Rattle.still_meaning.specs.Stills.{IsNodeAt, IsWhole, Passes, StillShown, flight, front_of, row_at}
+use Rattle.still_meaning.specs.Stills.{IsNodeAt, AreWhole, Passes, StillShown, flight, front_of, row_at}
 use Rattle.still_nodes.specs.Handing.{Accepts, IsFilled, MayAccept, Refills, queue_at, waiting_of, with_queue}
 use Rattle.still_nodes.proofs.Fronts.{NodesStay, accept_fronts, accept_stays, accept_waits, count_same, get_other, one_stays, on_its_own, onto_one, queue_taken, rows_count, rows_places, unpushed_is}
 use Rattle.still_nodes.proofs.Lists.{left_empty, right_empty}
@@ -32,7 +32,7 @@ nothing_moves a f t c filled =
 
 -- ---- what is on the way between two nodes
 
-module _ (a : StillShown) (w : IsWhole a) (f t : ℕ) (c : Chan) (lf : f < a.setup.shape.nodes) (lt : t < a.setup.shape.nodes)
+module _ (a : StillShown) (w : AreWhole a) (f t : ℕ) (c : Chan) (lf : f < a.setup.shape.nodes) (lt : t < a.setup.shape.nodes)
     (m : Message) (rest : List Message) (way : flight a f t c ≡ m ∷ rest) where
   sender : (n : Shown) × (slice_get a.nodes f ≡ Some n)
   sender = node_there a w.state w.still f lf
@@ -81,7 +81,7 @@ module _ (a : StillShown) (w : IsWhole a) (f t : ℕ) (c : Chan) (lf : f < a.set
 
 -- ---- it goes to the receiver
 
-module _ (a b : StillShown) (w : IsWhole a) (f t : ℕ) (c : Chan) (lf : f < a.setup.shape.nodes) (lt : t < a.setup.shape.nodes)
+module _ (a b : StillShown) (w : AreWhole a) (f t : ℕ) (c : Chan) (lf : f < a.setup.shape.nodes) (lt : t < a.setup.shape.nodes)
     (m : Message) (rest : List Message) (first : queue_at a.rows f t c ≡ m ∷ rest)
     (wire : (m.from ≡ f) × (m.to ≡ t) × (m.chan ≡ c)) (may : MayAccept a.nodes m) (x : Accepts a.nodes b.nodes m)
     (rows : b.rows ≡ with_queue a.rows f t c rest) where

@@ -8,7 +8,7 @@ use Rattle.tw_base.specs.declared.message.Chan.{Chan}
 use Rattle.tw_base.specs.declared.message.Chan.TheVariants.{Zero, One}
 use Rattle.dsm_runs.specs.Setups.{Setup}
 use Rattle.node_meaning.specs.Nodes.{Shown}
-use Rattle.still_meaning.specs.Stills.{IsSpread, IsWhole, Passes, StillShown}
+use Rattle.still_meaning.specs.Stills.{IsSpread, AreWhole, Passes, StillShown}
 use Rattle.still_nodes.specs.Handing.{AreFilled, IsFilled, LeavesOthers, Refills, RefillsAll, RefillsTo, waiting_of, waits_at}
 use Rattle.still_nodes.proofs.Handed.{passes_more, passes_none}
 
@@ -43,7 +43,7 @@ spread_turn a b c k s p o none = record {
 }
 
 -- there are no more nodes than before
-no_more : (a b : StillShown) (k i : ℕ) (n : Shown) → IsWhole a → Passes a b → a.setup.shape.nodes ≤ k →
+no_more : (a b : StillShown) (k i : ℕ) (n : Shown) → AreWhole a → Passes a b → a.setup.shape.nodes ≤ k →
     slice_get b.nodes i ≡ Some n → i < k
 no_more a b k i n w p most there =
     let within : i < length b.nodes = slice_get_within b.nodes i n there in
@@ -51,7 +51,7 @@ no_more a b k i n w p most there =
     let count = w.still.count in
     omega (arith, within, same, count, most)
 
-pub spread_end : (a b : StillShown) (k : ℕ) → IsWhole a → a.setup.shape.nodes ≤ k → SpreadBelow a b k → IsSpread b
+pub spread_end : (a b : StillShown) (k : ℕ) → AreWhole a → a.setup.shape.nodes ≤ k → SpreadBelow a b k → IsSpread b
 spread_end a b k w most s = record {
   out = λ i n there. sym (ap (λ (x : Option Shown). waiting_of x) there) ∙ s.out i (no_more a b k i n w s.passes most there);
   fronts = λ f t c n there lf free. s.filled f t c lf n there free;
@@ -95,7 +95,7 @@ to_turn a b c k s r = record {
   ];
 }
 
-pub to_all : (a b : StillShown) (k : ℕ) → IsWhole a → a.setup.shape.nodes ≤ k → FilledTo a b k → RefillsAll a b
+pub to_all : (a b : StillShown) (k : ℕ) → AreWhole a → a.setup.shape.nodes ≤ k → FilledTo a b k → RefillsAll a b
 to_all a b k w most s = record {
   passes = s.passes;
   filled =

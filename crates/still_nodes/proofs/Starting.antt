@@ -15,7 +15,7 @@ use Rattle.node_meaning.specs.Nodes.{Shown, onto, tally_of}
 use Rattle.node_meaning.specs.Tallies.{Counts, Tally, first_tally}
 use Rattle.dsm_runs.specs.Beside.{Moves, ReplaysBeside}
 use Rattle.tw_base.specs.declared.entry.Entry.{Entry}
-use Rattle.still_meaning.specs.Stills.{IsStill, IsWhole, flight, front_of, row_at, tallies, tally_in, unpushed}
+use Rattle.still_meaning.specs.Stills.{IsStill, AreWhole, flight, front_of, row_at, tallies, tally_in, unpushed}
 use Rattle.still_nodes.proofs.Lists.{each_replicate, index_replicate, push_each}
 use Rattle.still_nodes.specs.Parts.{all_of}
 use Rattle.still_nodes.specs.Beginning.{AreFirst, IsFirst}
@@ -85,7 +85,7 @@ module _ (s : Setup) (code : Code) (ns : List Shown) (rows : List (List (List Me
       joined = record { locals = λ i l. refl; wires = λ f t c lf lt. sym (flight_none f t c); next = λ f t c lf lt. refl };
     }
 
-    pub starts_whole : IsSetup s → IsWhole (all_of s code ns rows taken)
+    pub starts_whole : IsSetup s → AreWhole (all_of s code ns rows taken)
     starts_whole valid = record {
       setup = valid;
       rows = empty_count rows s.shape.nodes none;

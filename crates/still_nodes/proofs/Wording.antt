@@ -9,7 +9,7 @@ use Rattle.dsm_runs.specs.Setups.{Setup}
 use Rattle.dsm_runs.specs.Worlds.{World}
 use Rattle.node_parts.specs.Truths.{truths}
 use Rattle.node_meaning.specs.Nodes.{Shown, node_tests}
-use Rattle.still_meaning.specs.Stills.{IsStill, IsWhole, StillShown}
+use Rattle.still_meaning.specs.Stills.{IsStill, AreWhole, StillShown}
 use Rattle.still_nodes.proofs.Lists.{present}
 use Rattle.still_nodes.specs.Telling.{AreWordsOf, IsWordOf, Tells}
 
@@ -37,7 +37,7 @@ one_word_more nodes words i n w are l is word = record {
 -- ---- all nodes
 
 -- There are few words.
-pub few_words : (s : StillShown) → IsWhole s → (nodes : List Shown) (words : List ℕ) → nodes ≡ s.nodes →
+pub few_words : (s : StillShown) → AreWhole s → (nodes : List Shown) (words : List ℕ) → nodes ≡ s.nodes →
     AreWordsOf nodes words (length nodes) → length words ≤ 8
 few_words s w nodes words same are =
     let most = w.setup.limits.nodes in
@@ -66,7 +66,7 @@ words_tell s g words still are = record {
         subst (λ k. get_or words i 0 < 2 ^ (2 + 2 * k)) size (are.each i n (slice_get_within s.nodes i n there) there).1
 
 -- the same words tell them
-pub words_kept : (s : StillShown) → IsWhole s → (nodes : List Shown) (old new : List ℕ) → nodes ≡ s.nodes →
+pub words_kept : (s : StillShown) → AreWhole s → (nodes : List Shown) (old new : List ℕ) → nodes ≡ s.nodes →
     AreWordsOf nodes old (length nodes) → new ≡ old → Tells s new
 words_kept s w nodes old new same are is =
     subst (λ (ws : List ℕ). Tells s ws) (sym is)

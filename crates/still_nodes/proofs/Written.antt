@@ -14,7 +14,7 @@ use Rattle.dsm_runs.specs.Setups.{Setup}
 use Rattle.handler_code.specs.declared.code.Code.{Code}
 use Rattle.node_meaning.specs.Nodes.{Shown, front_at, node_tests}
 use Rattle.node_parts.specs.Truths.{truths}
-use Rattle.still_meaning.specs.Stills.{IsWhole, Passes, StillShown, flight, front_of, unpushed}
+use Rattle.still_meaning.specs.Stills.{AreWhole, Passes, StillShown, flight, front_of, unpushed}
 use Rattle.still_nodes.specs.Handing.{Accepts, HandsOver, HandsTo, IsFirstOut, LeavesOthers, MayAccept, MayHandOver, Pops, Refills, queue_at, waiting_of, waits_at, with_queue}
 use Rattle.still_nodes.specs.Parts.{Rows, all_of}
 use Rattle.still_nodes.specs.Telling.{IsWordAt}
@@ -31,7 +31,7 @@ IsClear ns rows f t c = front_of (slice_get ns t) f c ++ queue_at rows f t c ≡
 
 -- a message of node k was handed out to node t
 pub record Moves (a b : StillShown) (k t : ℕ) : Type 0 where
-  pub whole : IsWhole b
+  pub whole : AreWhole b
   pub passes : Passes a b
   pub others : LeavesOthers a b k
   pub out : HandsTo a b k t
@@ -47,7 +47,7 @@ none_out a ns k is first =
 -- ---- parts are written
 
 module _ (s : Setup) (code : Code) (ns : List Shown) (rows : Rows) (taken : List Entry)
-    (w : IsWhole (all_of s code ns rows taken)) where
+    (w : AreWhole (all_of s code ns rows taken)) where
   -- a message is handed out
   module _ (k : ℕ) (lk : k < s.shape.nodes) (m : Message) (o : IsFirstOut ns k m) where
     pub receiver_there : m.to < length ns
@@ -115,7 +115,7 @@ module _ (s : Setup) (code : Code) (ns : List Shown) (rows : Rows) (taken : List
         (way m first) n there free
 
     pub was_kept : (m : Message) (ns2 : List Shown) → queue_at rows f t c ≡ m ∷ queue_at rows2 f t c → Accepts ns ns2 m
-        → IsWhole (all_of s code ns2 rows2 taken) × Refills (all_of s code ns rows taken) (all_of s code ns2 rows2 taken) f t c
+        → AreWhole (all_of s code ns2 rows2 taken) × Refills (all_of s code ns rows taken) (all_of s code ns2 rows2 taken) f t c
     was_kept m ns2 first x =
         let a : StillShown = all_of s code ns rows taken in
         let b : StillShown = all_of s code ns2 rows2 taken in
@@ -141,7 +141,7 @@ module _ (s : Setup) (code : Code) (ns : List Shown) (rows : Rows) (taken : List
 
 -- ---- the tests of a node
 
-pub tests_read : (a : StillShown) (w : IsWhole a) (j k : ℕ) (n : Shown) (word : ℕ) → k < a.setup.shape.nodes → j ≡ k →
+pub tests_read : (a : StillShown) (w : AreWhole a) (j k : ℕ) (n : Shown) (word : ℕ) → k < a.setup.shape.nodes → j ≡ k →
     n ≡ get_or a.nodes j n → truths (2 + 2 * n.setup.shape.nodes) word ≡ node_tests n → word < 2 ^ (2 + 2 * n.setup.shape.nodes)
     → IsWordAt a k word
 tests_read a w j k n word l at is tests small =
@@ -201,7 +201,7 @@ pub record FollowsFirst (s : Setup) (ns : List Shown) (rows rows2 : Rows) (f t :
   pub others : rows2 ≡ with_queue rows f t c (queue_at rows2 f t c)
 
 pub followed : (s : Setup) (code : Code) (ns : List Shown) (rows : Rows) (taken : List Entry)
-    (w : IsWhole (all_of s code ns rows taken)) (a : StillShown) (f t : ℕ) (c : Chan) (j : ℕ) (n : Shown) (r : Option Message)
+    (w : AreWhole (all_of s code ns rows taken)) (a : StillShown) (f t : ℕ) (c : Chan) (j : ℕ) (n : Shown) (r : Option Message)
     (rows1 rows2 : Rows) → all_of s code ns rows taken ≡ a
     → f < a.setup.shape.nodes → t < a.setup.shape.nodes → j ≡ t → n ≡ get_or ns j n → false ≡ is_some (front_at n f c) →
     rows1 ≡ rows → r ≡ slice_get (queue_at rows1 f t c) 0 → queue_at rows1 f t c ≡ option_to_list r ++ queue_at rows2 f t c
@@ -229,7 +229,7 @@ none_is xs ys r popped is = popped ∙ ap (λ (o : Option Message). option_to_li
 -- ---- the parts are written back
 
 module _ (s : Setup) (code : Code) (nodes : Vec Shown) (rows : Vec (List (List Message))) (taken : List Entry)
-    (w : IsWhole (all_of s code nodes.items rows.items taken)) (f t : ℕ) (c : Chan) (n : Shown) (r : Option Message)
+    (w : AreWhole (all_of s code nodes.items rows.items taken)) (f t : ℕ) (c : Chan) (n : Shown) (r : Option Message)
     (rows1 rows2 : Rows) (x : FollowsFirst s nodes.items rows.items rows2 f t c n r) (many : length rows1 ≡ rows.len)
     (is : rows1 ≡ rows.items) where
   rows_back : (with_items rows rows2).items ≡ rows2
@@ -241,7 +241,7 @@ module _ (s : Setup) (code : Code) (nodes : Vec Shown) (rows : Vec (List (List M
   -- what followed was kept
   pub kept_back : (m : Message) (ns1 ns2 : List Shown) → r ≡ Some m → length ns1 ≡ nodes.len → ns1 ≡ nodes.items →
       Accepts ns1 ns2 m →
-      IsWhole (all_of s code (with_items nodes ns2).items (with_items rows rows2).items taken)
+      AreWhole (all_of s code (with_items nodes ns2).items (with_items rows rows2).items taken)
       × Refills (all_of s code nodes.items rows.items taken)
       (all_of s code (with_items nodes ns2).items (with_items rows rows2).items taken) f t c
   kept_back m ns1 ns2 some size same accepts =
@@ -251,8 +251,8 @@ module _ (s : Setup) (code : Code) (nodes : Vec Shown) (rows : Vec (List (List M
       let done =
       was_kept s code nodes.items rows.items taken w f t c x.from x.to n x.there x.free rows2 x.others m ns2 first
       (subst (λ (ns : List Shown). Accepts ns ns2 m) same accepts) in (
-        subst (λ (ns : List Shown). IsWhole (all_of s code ns (with_items rows rows2).items taken)) (sym back)
-            (subst (λ (rs : Rows). IsWhole (all_of s code ns2 rs taken)) (sym rows_back) done.0),
+        subst (λ (ns : List Shown). AreWhole (all_of s code ns (with_items rows rows2).items taken)) (sym back)
+            (subst (λ (rs : Rows). AreWhole (all_of s code ns2 rs taken)) (sym rows_back) done.0),
         subst (λ (ns : List Shown). Refills (all_of s code nodes.items rows.items taken)
             (all_of s code ns (with_items rows rows2).items taken) f t c) (sym back)
             (subst (λ (rs : Rows). Refills (all_of s code nodes.items rows.items taken) (all_of s code ns2 rs taken) f t c)
@@ -261,7 +261,7 @@ module _ (s : Setup) (code : Code) (nodes : Vec Shown) (rows : Vec (List (List M
 
   -- nothing followed
   pub stayed_back : r ≡ None →
-      IsWhole (all_of s code nodes.items (with_items rows rows2).items taken)
+      AreWhole (all_of s code nodes.items (with_items rows rows2).items taken)
       × Refills (all_of s code nodes.items rows.items taken)
       (all_of s code nodes.items (with_items rows rows2).items taken) f t c
   stayed_back none =
@@ -269,7 +269,7 @@ module _ (s : Setup) (code : Code) (nodes : Vec Shown) (rows : Vec (List (List M
       stayed s code nodes.items rows.items taken w f t c x.from x.to n x.there x.free rows2 x.others (sym none ∙ x.first)
       (none_is (queue_at rows.items f t c) (queue_at rows2 f t c) r x.popped none) in
       let back : (with_items rows rows2).items ≡ rows.items = rows_back ∙ done.0 in (
-        subst (λ (rs : Rows). IsWhole (all_of s code nodes.items rs taken)) (sym back) w,
+        subst (λ (rs : Rows). AreWhole (all_of s code nodes.items rs taken)) (sym back) w,
         subst (λ (rs : Rows). Refills (all_of s code nodes.items rows.items taken) (all_of s code nodes.items rs taken) f t c)
             (sym back) done.1,
       )

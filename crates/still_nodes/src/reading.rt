@@ -22,7 +22,7 @@ fn is_spent(shape: Shape, node: &Node) -> bool
 }
 
 /// How a node ended, with the ops that its handlers made and the records that they saved.
-fn end_of(shape: Shape, node: &Node) -> Final
+fn final_of(shape: Shape, node: &Node) -> Final
     requires { shape ≡ node.now.setup.shape }
     ensures { result ≡ end_of_node (Some node.now) }
 {
@@ -67,6 +67,6 @@ impl Nodes for Still<'_> {
     }
 
     fn ended(&self, node: NodeId) -> Final {
-        end_of(self.setup.shape(), self.node(node))
+        final_of(self.setup.shape(), self.node(node))
     }
 }

@@ -30,7 +30,7 @@ impl<'a> Model for Still<'a> {
     ghost use Rattle.std.specs.Coded.{codes};
     ghost use Rattle.teapot_tree.specs.contracts.expr.Expr as expr;
     ghost use Rattle.teapot_tree.specs.contracts.stmt.Do as statement;
-    ghost use Rattle.still_meaning.specs.Stills.{IsWhole, StillShown};
+    ghost use Rattle.still_meaning.specs.Stills.{AreWhole, StillShown};
     ghost use Rattle.still_nodes.specs.Parts.{all_of};
 
     ghost Value = { StillShown };
@@ -39,7 +39,7 @@ impl<'a> Model for Still<'a> {
 
     ghost view = { λ s. all_of s.setup.now s.code.now s.nodes.items s.rows.items s.taken.list };
 
-    ghost invariant = { λ s. IsWhole (all_of s.setup.now s.code.now s.nodes.items s.rows.items s.taken.list) };
+    ghost invariant = { λ s. AreWhole (all_of s.setup.now s.code.now s.nodes.items s.rows.items s.taken.list) };
 }
 
 /// A node at the start of its program.

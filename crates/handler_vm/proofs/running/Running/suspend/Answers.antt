@@ -6,7 +6,7 @@ use Rattle.cont_store.specs.declared.record.Record.{Record}
 use Rattle.handler_code.specs.declared.code.Rest.{Rest}
 use Rattle.handler_code.specs.Doors.{filled}
 use Rattle.handler_code.specs.Machine.{Saved, saved_values, state_arity}
-use Rattle.handler_vm.specs.Chains.{IsFull, IsWhole, records_of, saved_from, saved_of, widened}
+use Rattle.handler_vm.specs.Chains.{IsFull, IsWholeRecord, records_of, saved_from, saved_of, widened}
 use Rattle.handler_vm.proofs.Chaining.{keeps_saved, widened_all}
 use Rattle.handler_vm.proofs.Winding.{wound}
 use Rattle.handler_vm.proofs.running.Running.suspend.Goals as goal
@@ -41,7 +41,7 @@ returns-clause-stop c = λ sent.
       args = was.args;
     } in
     let came : IsFull words left.came = rw same c.requires.sound.came in
-    let whole : IsWhole words r = record { values = c.saved.ensures.all; args = c.places.ensures.all; came = came } in
+    let whole : IsWholeRecord words r = record { values = c.saved.ensures.all; args = c.places.ensures.all; came = came } in
     let depth : r.depth ≡ length rs + 1 = ap (λ n. n + 1) c.depth-depth.ensures in
     let w = wound words old c.save.new.self was.cont c.save.result r c.requires.sound.chain c.save.ensures.was_free c.save.ensures.changes (ap (λ x. x.cont) same) depth c.requires.low whole in
     let rest_is : Some (get_or c.items.result.now c.args.rest no_rest) ≡ slice_get c.args.code.now.rests c.args.rest =

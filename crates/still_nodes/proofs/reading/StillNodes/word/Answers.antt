@@ -1,12 +1,12 @@
 use Rattle.std.proofs.Common.{◌*◌, ◌<◌, ◌∙◌, ap, sym, subst}
 use Rattle.block_tags.specs.Copies.{Copies, word_at}
-use Rattle.still_meaning.specs.Stills.{IsWhole, StillShown}
+use Rattle.still_meaning.specs.Stills.{AreWhole, StillShown}
 use Rattle.still_nodes.proofs.Places.{address_there, word_there}
 use Rattle.still_nodes.proofs.reading.StillNodes.word.Goals as goal
 
 pub peek-requires : goal.peek-requires
 peek-requires c =
-    let whole : IsWhole c.args.self.now = subst (λ (s : StillShown). IsWhole s) c.self.view_is c.self.invariant in
+    let whole : AreWhole c.args.self.now = subst (λ (s : StillShown). AreWhole s) c.self.view_is c.self.invariant in
     let there =
     address_there _ _ _ c.node-read.result.now whole c.node-read.ensures c.entries-log.ensures.well c.requires.address in
     subst (λ (m : Copies). c.args.address < m.shape.words * m.shape.blocks) (sym c.blocks-2.ensures) there

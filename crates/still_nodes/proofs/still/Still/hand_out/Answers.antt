@@ -2,7 +2,7 @@ use Rattle.std.proofs.Common.{◌≡◌, ◌∙◌, ◌∷◌, ◌++◌, ◌<◌
 use Rattle.std.proofs.lemmas.List.{with_items_is}
 use Rattle.tw_base.specs.declared.message.Message.{Message}
 use Rattle.node_meaning.specs.Nodes.{Shown}
-use Rattle.still_meaning.specs.Stills.{IsWhole, Passes, StillShown}
+use Rattle.still_meaning.specs.Stills.{AreWhole, Passes, StillShown}
 use Rattle.still_nodes.specs.Handing.{HandsOver, IsFirstOut, MayHandOver, Pops, queue_at, with_queue}
 use Rattle.std.specs.Vec.{with_items}
 use Rattle.still_nodes.specs.Parts.{Rows, all_of}
@@ -59,7 +59,7 @@ invariant_of-self c =
     let back =
     with_items_is i.nodes c.hand_over.new.nodes
     (hands_count c.deref_mut.result.now c.hand_over.new.nodes c.args.node c.hand_over.ensures ∙ c.deref_mut.ensures.len) in
-    subst (λ (ns : List Shown). IsWhole (all_of i.setup.now i.code.now ns i.rows.items i.taken.list)) (sym back) done.whole
+    subst (λ (ns : List Shown). AreWhole (all_of i.setup.now i.code.now ns i.rows.items i.taken.list)) (sym back) done.whole
 
 pub put_behind-requires : goal.put_behind-requires
 put_behind-requires c =
@@ -81,7 +81,7 @@ invariant_of-self-in_err-put_behind c =
     with_items_is i.rows c.put_behind.new.rows
     (ap (λ (rs : Rows). length rs) c.in_err-put_behind.ensures.err ∙ c.deref_mut-else-is_clear.ensures.len)
     ∙ c.in_err-put_behind.ensures.err ∙ c.deref_mut-else-is_clear.ensures.value in
-    subst (λ (rs : Rows). IsWhole (all_of i.setup.now i.code.now i.nodes.items rs i.taken.list)) (sym back) c.self.invariant
+    subst (λ (rs : Rows). AreWhole (all_of i.setup.now i.code.now i.nodes.items rs i.taken.list)) (sym back) c.self.invariant
 
 pub returns-in_err-put_behind-clause-passes : goal.returns-in_err-put_behind-clause-passes
 returns-in_err-put_behind-clause-passes c =
@@ -121,9 +121,9 @@ invariant_of-self-else-is_clear c =
     (ap (λ (rs : Rows). length rs) c.in_ok-put_behind.ensures.ok
     ∙ rows_count c.deref_mut-else-is_clear.result.now m.from m.to m.chan
     (queue_at c.deref_mut-else-is_clear.result.now m.from m.to m.chan ++ m ∷ []) ∙ c.deref_mut-else-is_clear.ensures.len) in
-    subst (λ (ns : List Shown). IsWhole
+    subst (λ (ns : List Shown). AreWhole
     (all_of i.setup.now i.code.now ns (with_items i.rows c.put_behind.new.rows).items i.taken.list)) (sym nodes)
-    (subst (λ (rs : Rows). IsWhole (all_of i.setup.now i.code.now c.take_first.new.nodes rs i.taken.list)) (sym rows) done.whole)
+    (subst (λ (rs : Rows). AreWhole (all_of i.setup.now i.code.now c.take_first.new.nodes rs i.taken.list)) (sym rows) done.whole)
 
 -- whichever way it went
 moves : (c : goal.Joined-is_clear) → Moves c.args.self.now c.if-is_clear.self c.args.node c.in-Some.message.now.to

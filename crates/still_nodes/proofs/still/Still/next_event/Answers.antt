@@ -1,6 +1,6 @@
 use Rattle.std.proofs.Common.{◌∙◌, ap, subst}
 use Rattle.dsm_runs.specs.Schedules.{chosen}
-use Rattle.still_meaning.specs.Stills.{IsWhole, StillShown}
+use Rattle.still_meaning.specs.Stills.{AreWhole, StillShown}
 use Rattle.still_nodes.proofs.Choosing.{told_are_enabled}
 use Rattle.still_nodes.proofs.Followed.{may_make_chosen, rests_where_none}
 use Rattle.still_nodes.proofs.still.Still.next_event.Goals as goal
@@ -12,10 +12,10 @@ returns-clause-chosen c = λ h s.
 
 pub returns-clause-may : goal.returns-clause-may
 returns-clause-may c =
-    let whole : IsWhole c.args.self.now = subst (λ (s : StillShown). IsWhole s) c.self.view_is c.self.invariant in
+    let whole : AreWhole c.args.self.now = subst (λ (s : StillShown). AreWhole s) c.self.view_is c.self.invariant in
     may_make_chosen _ _ _ _ whole c.requires.told c.requires.spread c.choose.result c.choose.ensures
 
 pub returns-clause-rest : goal.returns-clause-rest
 returns-clause-rest c =
-    let whole : IsWhole c.args.self.now = subst (λ (s : StillShown). IsWhole s) c.self.view_is c.self.invariant in
+    let whole : AreWhole c.args.self.now = subst (λ (s : StillShown). AreWhole s) c.self.view_is c.self.invariant in
     rests_where_none _ _ _ _ whole c.requires.told c.requires.spread c.choose.result c.choose.ensures

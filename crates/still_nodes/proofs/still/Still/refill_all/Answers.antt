@@ -1,6 +1,6 @@
 use Rattle.std.proofs.Common.{ℕ, ◌<◌, ◌≤◌, ◌∙◌, ap, subst}
 use Rattle.tw_base.specs.Shape.{Sizes}
-use Rattle.still_meaning.specs.Stills.{IsWhole, StillShown}
+use Rattle.still_meaning.specs.Stills.{AreWhole, StillShown}
 use Rattle.still_nodes.specs.Handing.{RefillsTo}
 use Rattle.still_nodes.proofs.Spreading.{made_is, to_all, to_turn}
 use Rattle.still_nodes.proofs.still.Still.refill_all.Goals as goal
@@ -20,4 +20,4 @@ returns c =
     (c.nodes-number-end.ensures.value ∙ ap (λ (s : Sizes). s.nodes) c.shape.ensures.value
     ∙ ap (λ (x : StillShown). x.setup.shape.nodes) c.self.view_is) c.loop-number-test.false in
     to_all c.args.self.now c.loop-number.self c.loop-number.number
-    (subst (λ (x : StillShown). IsWhole x) c.self.view_is c.self.invariant) most c.loop-number.invariant
+    (subst (λ (x : StillShown). AreWhole x) c.self.view_is c.self.invariant) most c.loop-number.invariant

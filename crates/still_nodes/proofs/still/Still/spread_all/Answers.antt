@@ -1,6 +1,6 @@
 use Rattle.std.proofs.Common.{◌≡◌, ℕ, ◌<◌, ◌≤◌, ◌∙◌, [], ap, subst}
 use Rattle.tw_base.specs.Shape.{Sizes}
-use Rattle.still_meaning.specs.Stills.{IsWhole, StillShown}
+use Rattle.still_meaning.specs.Stills.{AreWhole, StillShown}
 use Rattle.still_nodes.specs.Handing.{LeavesOthers, waits_at}
 use Rattle.still_nodes.proofs.Handed.{passes_more}
 use Rattle.still_nodes.proofs.Spreading.{made_is, spread_end, spread_start, spread_turn}
@@ -37,4 +37,4 @@ returns-clause-spread c =
     (c.nodes-number-end.ensures.value ∙ ap (λ (s : Sizes). s.nodes) c.shape.ensures.value
     ∙ ap (λ (x : StillShown). x.setup.shape.nodes) c.self.view_is) c.loop-number-test.false in
     spread_end c.refill_all.new.self c.loop-number.self c.loop-number.number
-    (subst (λ (x : StillShown). IsWhole x) c.self.view_is c.self.invariant) most c.loop-number.invariant
+    (subst (λ (x : StillShown). AreWhole x) c.self.view_is c.self.invariant) most c.loop-number.invariant
