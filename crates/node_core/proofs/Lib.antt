@@ -1,3 +1,4 @@
+pub mod Sharing
 pub mod Posted
 pub mod HandlerRuns
 pub mod Takes

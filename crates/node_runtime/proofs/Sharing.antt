@@ -1,44 +1,22 @@
--- Threads may share a cluster: a node, and so a seat, may pass from thread to thread.
+-- Threads may share a cluster, since its seats may pass from thread to thread.
 use mathlib.Core.List.{[], ◌∷◌}
 use mir.Syntax.{Sym, Width}
 use denote.Plain.{UInt}
 use denote.Struct.Field.{row_field}
 use denote.Struct.Tuple.{TupleAt, type_at}
 use denote.RattleType.{RattleType}
-use denote.Param.Send.{IsSend, IsSync, sendable, view_send}
+use denote.Param.Send.{IsSend, IsSync, sendable}
 use denote.Param.SendFields.{as_row_send, declared_send, declared_sync}
 use denote.Ref.{NamedLft}
-use Rattle.std.proofs.marker.PhantomData.TheSendSync as phantom
 use Rattle.std.proofs.option.Option.TheSendSync as option
 use Rattle.std.proofs.sync.Mutex.TheSendSync as mutex
 use Rattle.std.specs.contracts.sync.Mutex as mutex_type
 use Rattle.dsm_runs.proofs.Sharing.{setup_sync}
 use Rattle.handler_code.proofs.Sharing.{code_sync}
-use Rattle.node_core.proofs.state.State.TheSendSync as state
-use Rattle.node_core.specs.contracts.node.Node as node
-use Rattle.node_core.specs.contracts.node.Node.TheInside as node_inside
-use Rattle.node_seats.proofs.closed.Closed.TheSendSync as closed
-use Rattle.node_seats.specs.contracts.seat.Seat as seat
-use Rattle.node_seats.specs.contracts.seat.Seat.TheInside as seat_inside
+use Rattle.node_seats.proofs.Sharing.{seat_send}
 use Rattle.node_seats.specs.declared.naming.Naming.{Ghosts}
-use Rattle.tw_base.proofs.node.NodeId.TheSendSync as node_id
-use Rattle.tw_wire.proofs.ends.Ends.TheSendSync as ends
 use Rattle.tw_wire.proofs.wires.Wires.TheSendSync as wires
 use Rattle.node_runtime.specs.contracts.cluster.Cluster as cluster
-
-pub node_send : (a : NamedLft) → IsSend (node.the_row a)
-node_send a =
-    view_send _ _ _ _ _ (declared_send (node_inside.the_type a) (
-      search (sendable, setup_sync) depth 8,
-      (search (sendable, code_sync) depth 8, (search (sendable, node_id.the_send) depth 8, (search (sendable, state.the_send) depth 8, tt))),
-    ))
-
-pub seat_send : (a : NamedLft) (N ME : RattleType) (g : Ghosts N.Denot) → IsSend N → IsSend (seat.the_row a N ME g)
-seat_send a N ME g leaves =
-    view_send _ _ _ _ _ (declared_send (seat_inside.the_type a N ME g) (
-      node_send a,
-      (search (sendable, ends.the_send) depth 8, (search (sendable, closed.the_send) depth 8, (search sendable depth 8, (search (sendable, phantom.the_send) depth 8, tt)))),
-    ))
 
 ruleset place = (sendable, option.the_sync, mutex.the_sync, seat_send)
 

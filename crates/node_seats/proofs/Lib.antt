@@ -1,5 +1,5 @@
 pub mod Answers
-pub mod Crossing
+pub mod Sharing
 pub mod Ends
 pub mod Seating
 pub mod Trying
