@@ -1,11 +1,11 @@
 -- What the calls need: one queue, as it stands in the vector, becomes another.
 use mir.Val.{bool_byte}
-use Rattle.std.proofs.Common.{◌≡◌, ℕ, ◌+◌, ◌-◌, ◌^◌, ◌<◌, ◌≤◌, Bool, true, false, ◌||◌, nat_lt, Option, Some, None, length, length-append, List, [], ◌∷◌, ◌++◌, map, take, set, get_or, arith, refl, ap, sym, ◌∙◌, subst}
+use Rattle.std.proofs.Common.{◌≡◌, ℕ, ◌+◌, ◌-◌, ◌^◌, ◌<◌, ◌≤◌, Bool, true, false, ◌||◌, nat_lt, Option, Some, None, length, length-append, List, [], ◌∷◌, ◌++◌, map, take, drop, set, get_or, arith, refl, ap, sym, ◌∙◌, subst}
 use Rattle.std.specs.Prelude.{slice_get, is_some, not, OnErr, Result, Ok, Err}
 use Rattle.std.specs.List.{count_by, list_any}
 use Rattle.std.proofs.lemmas.Bool.Decides.{Decides-ltb, nat_tests}
-use Rattle.std.proofs.lemmas.List.{take_all, take_more}
-use Rattle.std.proofs.lemmas.List.Sums.{get_or-le-sum_by, sum_by-cons}
+use Rattle.std.proofs.lemmas.List.{take-append-drop, take_all, take_more}
+use Rattle.std.proofs.lemmas.List.Sums.{get_or-le-sum_by, sum_by-cons, sum_by-drop_more}
 use Rattle.std.proofs.lemmas.Option.{get_or_from_slice_get, slice_get_read}
 use Rattle.tw_base.specs.Lists.{Each}
 use Rattle.dsm_runs.specs.Events.{free}
@@ -260,6 +260,54 @@ found_earliest qs i found old all h =
   where
     one_number : (o : Option ℕ) (a b : ℕ) → o ≡ Some a → o ≡ Some b → a ≡ b
     one_number o a b e f = cc
+
+-- the queues from place i on have none
+none_open : (qs : List BlockQueue) (x : BlockQueue) → count_by is_open qs ≡ 0 → Each (IsNoLater x) qs
+none_open [] x none = tt
+none_open (q ∷ qs) x none =
+    let sum : count_by is_open (q ∷ qs) ≡ one_if (is_open q) + count_by is_open qs =
+    sum_by-cons (λ (y : BlockQueue). one_if (is_open y)) q qs in (
+      λ c e. let one : one_if (is_open q) ≡ 1 = ap (λ (o : Option ℕ). one_if (is_some o)) e in absurd (omega (arith, sum, none, one)),
+      none_open qs x (omega (arith, sum, none)),
+    )
+
+-- what was found, and how many of the queues from place i on have an eligible message
+pub record IsSought (qs : List BlockQueue) (i found left : ℕ) : Type 0 where
+  pub found_so : IsFound qs i found
+  pub left_is : left ≡ count_by is_open (drop i qs)
+
+pub count_next : (qs : List BlockQueue) (i : ℕ) (x : BlockQueue) → i < length qs → x ≡ get_or qs i x
+    → count_by is_open (drop i qs) ≡ one_if (is_open x) + count_by is_open (drop (i + 1) qs)
+count_next qs i x l read =
+    sum_by-drop_more (λ (y : BlockQueue). one_if (is_open y)) qs i x l
+    ∙ ap (λ (y : BlockQueue). one_if (is_open y) + count_by is_open (drop (i + 1) qs)) (sym read)
+
+pub sought_next : (qs : List BlockQueue) (i found next left one : ℕ) (x : BlockQueue) → IsSought qs i found left → i < length qs
+    → x ≡ get_or qs i x → one ≡ one_if (is_open x) → IsFound qs (i + 1) next → IsSought qs (i + 1) next (left - one)
+sought_next qs i found next left one x old l read is found_next = record {
+  found_so = found_next;
+  left_is = omega (arith, old.left_is, count_next qs i x l read, is);
+}
+
+pub sought_fits : (qs : List BlockQueue) (i found left one : ℕ) (x : BlockQueue) → IsSought qs i found left → i < length qs
+    → x ≡ get_or qs i x → one ≡ one_if (is_open x) → one ≤ left
+sought_fits qs i found left one x old l read is = omega (arith, old.left_is, count_next qs i x l read, is)
+
+pub sought_all : (qs : List BlockQueue) (i found left : ℕ) → IsSought qs i found left → left ≡ 0 → list_any is_open qs ≡ true
+    → IsEarliest qs found
+sought_all qs i found left old none any =
+    let was = old.found_so in
+    let none_left : count_by is_open (drop i qs) ≡ 0 = sym old.left_is ∙ none in
+    found_earliest qs (length qs) found (record {
+      within = was.within;
+      queue = was.queue;
+      at = was.at;
+      others =
+          subst (λ (xs : List BlockQueue). Each (IsNoLater was.queue) xs)
+          (take-append-drop i qs ∙ sym (take_all (length qs) qs (omega arith)))
+          (Each-append (IsNoLater was.queue) (take i qs) (drop i qs) was.others
+          (none_open (drop i qs) was.queue none_left));
+    }) (omega arith) any
 
 -- ---- counts
 

@@ -1,5 +1,5 @@
 ghost use Rattle.std.specs.Prelude.{◌≡◌, ◌<◌, ◌++◌, ◌∷◌, [], map, true, false, IfOk, OnOk, OnErr};
-ghost use Rattle.std.specs.List.{list_any};
+ghost use Rattle.std.specs.List.{count_by, list_any};
 ghost use Rattle.dsm_runs.specs.Events.{free, freed_if, with_kept};
 ghost use Rattle.dsm_runs.specs.Tests.{has_eligible};
 ghost use Rattle.deferred_queues.specs.Deferrals.{TakesFirst, nothing_deferred, stays_ready};
@@ -55,13 +55,19 @@ fn is_earlier(arrival: Option<u64>, than: Option<u64>) -> bool
     }
 }
 
-/// The place of the queue with the eligible message that came first.
-fn earliest(queues: &[Queue]) -> usize
-    requires { list_any is_open queues.now ≡ true }
+/// The place of the queue with the eligible message that came first, where `open_count` queues have an eligible message.
+fn earliest(queues: &[Queue], open_count: usize) -> usize
+    requires any { list_any is_open queues.now ≡ true }
+    requires count { open_count ≡ count_by is_open queues.now }
     ensures { IsEarliest queues.now result }
 {
     let mut found = 0;
+    let mut left = open_count;
     for (at, queue) in queues.iter().enumerate() {
+        if left == 0 {
+            return found;
+        }
+        left -= usize::from(queue.first().is_some());
         if is_earlier(queue.first(), queues[found].first()) {
             found = at;
         }
@@ -114,7 +120,7 @@ impl Deferred {
         ensures ready { self.new.ready ≡ self.old.ready }
         ensures blocks { self.new.blocks ≡ self.old.blocks }
     {
-        let at = earliest(self.queues.as_slice());
+        let at = earliest(self.queues.as_slice(), self.open_count);
         let queue = &mut self.queues[at];
         let held = queue.pop();
         let more = usize::from(queue.first().is_some());

@@ -1,6 +1,7 @@
 -- A handler's run at a node's state, and what is done of it.
 use Rattle.std.proofs.Common.{◌≡◌, ◌∙◌, ℕ, zero, suc, ◌+◌, ◌<◌, ◌≤◌, ◌^◌, false, List, [], ◌∷◌, ◌++◌, Some, length, refl, ap, sym, subst, arith, get_or, get_or-set_same, get_or-set_other}
 use Rattle.std.specs.Prelude.{slice_set}
+use Rattle.std.specs.Global.{Vec}
 use Rattle.std.specs.List.{slice_index_or}
 use Rattle.std.proofs.Math.ListN.{length-set}
 use Rattle.tw_base.specs.declared.entry.Act.{Act}
@@ -82,13 +83,10 @@ pub record CallSays (p : Protocol) (code : Code) (me home : ℕ) (cell cell2 : C
   pub chain : IsChain blocks.shape.words conts2 cell2.cont
   pub others : KeepsOthers conts conts2 cell.cont cell2.cont
 
-abbrev ran_state : State → List Cell → Copies → Store → Sends → State
-ran_state x cells blocks conts around = record x { cells = cells; blocks = blocks; conts = conts; around = around }
-
 pub run_done : (s : Setup) (code : Code) (me : ℕ) (x : State) (m : Message) (p : Protocol) (home at : ℕ) (cell cell2 : Cell)
-    (cells2 : List Cell) (blocks2 : Copies) (conts2 : Store) (around2 : Sends) (ran : Ran) → CanHandle s code me x m
+    (cells2 : Vec Cell) (blocks2 : Copies) (conts2 : Store) (around2 : Sends) (ran : Ran) → CanHandle s code me x m
     → p ≡ s.protocol → home ≡ home_of s m.block → cell ≡ cell_at (shown_of s code me x) m.block → at ≡ m.block
-    → cells2 ≡ slice_set x.cells at cell2
+    → cells2.items ≡ slice_set x.cells.items at cell2
     → CallSays p code me home cell cell2 x.blocks blocks2 x.conts conts2 m around2.sent ran → ran.ops ≤ 2 ^ 62
     → length cell2.infos ≡ length cell.infos
     → HasRun s code me x (record x { cells = cells2; blocks = blocks2; conts = conts2; around = around2 }) m ran
@@ -105,21 +103,21 @@ run_done s code me x m p home at cell cell2 cells2 blocks2 conts2 around2 ran ca
       };
       ops = few;
       infos = ap (λ (y : Cell). length y.infos) cell_there ∙ infos ∙ ap (λ (y : Cell). length y.infos) same_cell;
-      cells = ap length set_there ∙ length-set x.cells m.block cell2;
+      cells = ap length set_there ∙ length-set x.cells.items m.block cell2;
       other_cells = λ b d. ap (λ (xs : List Cell). slice_index_or xs b (no_cell s me b)) set_there
-          ∙ get_or-set_other x.cells m.block b cell2 (no_cell s me b) d;
+          ∙ get_or-set_other x.cells.items m.block b cell2 (no_cell s me b) d;
       same = refl;
     }
   where
-    set_there : cells2 ≡ slice_set x.cells m.block cell2
-    set_there = set ∙ ap (λ n. slice_set x.cells n cell2) same_at
+    set_there : cells2.items ≡ slice_set x.cells.items m.block cell2
+    set_there = set ∙ ap (λ n. slice_set x.cells.items n cell2) same_at
 
-    cell_there : slice_index_or cells2 m.block (no_cell s me m.block) ≡ cell2
+    cell_there : slice_index_or cells2.items m.block (no_cell s me m.block) ≡ cell2
     cell_there = ap (λ (xs : List Cell). slice_index_or xs m.block (no_cell s me m.block)) set_there
-        ∙ get_or-set_same x.cells m.block cell2 (no_cell s me m.block) (omega (arith, can.ready.block, can.cells))
+        ∙ get_or-set_same x.cells.items m.block cell2 (no_cell s me m.block) (omega (arith, can.ready.block, can.cells))
 
     moved : CallSays s.protocol code me (home_of s m.block) (cell_at (shown_of s code me x) m.block)
-        (slice_index_or cells2 m.block (no_cell s me m.block)) x.blocks blocks2 x.conts conts2 m around2.sent ran
+        (slice_index_or cells2.items m.block (no_cell s me m.block)) x.blocks blocks2 x.conts conts2 m around2.sent ran
     moved =
         subst (λ (y : Cell). CallSays s.protocol code me (home_of s m.block) (cell_at (shown_of s code me x) m.block) y
         x.blocks blocks2 x.conts conts2 m around2.sent ran) (sym cell_there)
@@ -164,9 +162,9 @@ log_room s code me x y z m ran stamp can run settled =
     ∙ ap (λ (q : State). q.log) run.same)) can.rooms.log
 
 pub cells_there : (s : Setup) (code : Code) (me : ℕ) (x y z : State) (m : Message) (ran : Ran) (stamp : ℕ)
-    → CanHandle s code me x m → HasRun s code me x y m ran → HasSettled y z m ran stamp → m.block < length z.cells
+    → CanHandle s code me x m → HasRun s code me x y m ran → HasSettled y z m ran stamp → m.block < length z.cells.items
 cells_there s code me x y z m ran stamp can run settled = omega
-    (arith, can.ready.block, can.cells, run.cells, ap (λ (q : State). length q.cells) settled.same)
+    (arith, can.ready.block, can.cells, run.cells, ap (λ (q : State). length q.cells.items) settled.same)
 
 pub few_sends : (s : Setup) (code : Code) (me : ℕ) (x y z : State) (m : Message) (ran : Ran) (stamp : ℕ)
     (sends : List Message) → RunsAreBounded → CanHandle s code me x m → HasRun s code me x y m ran
@@ -179,15 +177,15 @@ few_sends s code me x y z m ran stamp sends law can run settled is =
 -- ---- the event
 
 ran_moved : (s : Setup) (code : Code) (me : ℕ) (x y w : State) (m : Message) (sent : List Message) (ran : Ran)
-    → w.cells ≡ y.cells → w.blocks ≡ y.blocks → w.conts ≡ y.conts
+    → w.cells.items ≡ y.cells.items → w.blocks ≡ y.blocks → w.conts ≡ y.conts
     → RanFor (shown_of s code me x) (shown_of s code me y) m sent ran
     → RanFor (shown_of s code me x) (shown_of s code me w) m sent ran
 ran_moved s code me x y w m sent ran cells blocks conts h =
     subst (λ (c : List Cell). RanFor (shown_of s code me x) (record (shown_of s code me w) { cells = c }) m sent ran) (sym cells)
-    (subst (λ (b : Copies). RanFor (shown_of s code me x) (record (shown_of s code me w) { cells = y.cells; copies = b }) m
+    (subst (λ (b : Copies). RanFor (shown_of s code me x) (record (shown_of s code me w) { cells = y.cells.items; copies = b }) m
     sent ran) (sym blocks)
     (subst (λ (k : Store). RanFor (shown_of s code me x) (record (shown_of s code me w)
-    { cells = y.cells; copies = y.blocks; conts = k }) m sent ran) (sym conts)
+    { cells = y.cells.items; copies = y.blocks; conts = k }) m sent ran) (sym conts)
     (record { meant = h.meant; stop = h.stop; stops = h.stops; leaves = h.leaves; chain = h.chain; others = h.others })))
 
 pub handled_done : (s : Setup) (code : Code) (me : ℕ) (x y z : State) (m : Message) (ran : Ran) (stamp : ℕ) (act : Act)
@@ -230,5 +228,5 @@ handled_done s code me x y z m ran stamp act log entry run settled logged at nod
   unready = refl;
 }
   where
-    cells : z.cells ≡ y.cells
-    cells = ap (λ (q : State). q.cells) settled.same
+    cells : z.cells.items ≡ y.cells.items
+    cells = ap (λ (q : State). q.cells.items) settled.same

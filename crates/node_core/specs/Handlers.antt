@@ -27,7 +27,7 @@ pub record CanHandle (s : Setup) (code : Code) (me : ℕ) (x : State) (m : Messa
   pub ready : IsReadyFor (shown_of s code me x) m
   pub rooms : HasRooms x
   pub queues : x.deferred.blocks ≡ s.shape.blocks
-  pub cells : length x.cells ≡ s.shape.blocks
+  pub cells : length x.cells.items ≡ s.shape.blocks
   pub shape : x.blocks.shape ≡ s.shape
   pub sent : x.sent < 2 ^ 31
   pub posted : (k : ℕ) → slice_index x.out.posted k ≤ x.sent
@@ -46,7 +46,7 @@ pub record HasRun (s : Setup) (code : Code) (me : ℕ) (old new : State) (m : Me
   pub runs : RanFor (shown_of s code me old) (shown_of s code me new) m new.around.sent ran
   pub ops : ran.ops ≤ 2 ^ 62
   pub infos : length (cell_at (shown_of s code me new) m.block).infos ≡ length (cell_at (shown_of s code me old) m.block).infos
-  pub cells : length new.cells ≡ length old.cells
+  pub cells : length new.cells.items ≡ length old.cells.items
   pub other_cells : (b : ℕ) → b ≢ m.block → cell_at (shown_of s code me new) b ≡ cell_at (shown_of s code me old) b
   pub same : new ≡ record old { cells = new.cells; blocks = new.blocks; conts = new.conts; around = new.around }
 

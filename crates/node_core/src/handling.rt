@@ -70,13 +70,13 @@ fn run(setup: &Setup, code: &Code, me: NodeId, state: &mut State, message: &Mess
 {
     let home = setup.shape().home(message.block);
     let at = usize::from(message.block.get());
-    let mut cell = state.cells.items()[at];
-    has_infos(&cell);
+    let cell = &mut state.cells[at];
+    has_infos(cell);
     let ran = compiled_handlers::handle(
         code,
         &state.doors,
         setup.protocol(),
-        &mut cell,
+        cell,
         &mut state.blocks,
         &mut state.conts,
         me,
@@ -84,8 +84,7 @@ fn run(setup: &Setup, code: &Code, me: NodeId, state: &mut State, message: &Mess
         message,
         &mut state.around,
     );
-    has_infos(&cell);
-    state.cells.set(at, cell);
+    has_infos(cell);
     ran
 }
 
@@ -125,7 +124,7 @@ pub fn handle(
     settle(state, message, &ran, stamp);
     let after = After {
         block: message.block,
-        state: state.cells.items()[usize::from(message.block.get())].state,
+        state: state.cells[usize::from(message.block.get())].state,
         tag: state.blocks.tag(message.block),
         end: ran.end,
     };

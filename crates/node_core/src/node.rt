@@ -222,10 +222,10 @@ impl<'a> Node<'a> {
     }
 
     /// The entry of the event that the node made last.
-    pub fn last_entry(&self) -> Option<Entry>
-        ensures { result ≡ slice_get self.now.log (length self.now.log - 1) }
+    pub fn last_entry(&self) -> Option<&Entry>
+        ensures { option_copied result ≡ slice_get self.now.log (length self.now.log - 1) }
     {
-        self.state.log.entries().last().copied()
+        self.state.log.entries().last()
     }
 
     /// What the node keeps of a block beside its tag and its words.
@@ -233,7 +233,7 @@ impl<'a> Node<'a> {
         requires { block < self.now.setup.shape.blocks }
         ensures { slice_get self.now.cells block ≡ Some result.now }
     {
-        &self.state.cells.items()[usize::from(block.get())]
+        &self.state.cells[usize::from(block.get())]
     }
 
     pub fn conts(&self) -> &Conts

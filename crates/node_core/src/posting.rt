@@ -1,18 +1,9 @@
 ghost use Rattle.std.specs.Prelude.{ℕ, ◌≡◌, ◌+◌, ◌<◌, ◌≤◌, ◌^◌, length, slice_index};
 ghost use Rattle.node_core.specs.Handlers.{outbox};
-ghost use Rattle.node_meaning.specs.Sending.{post_all, stamped};
+ghost use Rattle.node_meaning.specs.Sending.{post_all};
 
 use node_parts::Out;
 use tw_base::Message;
-
-/// The message as the event of this stamp sends it.
-fn stamped(message: &Message, stamp: u64) -> Message
-    ensures { result ≡ stamped stamp message.now }
-{
-    let mut sent = *message;
-    sent.stamp = stamp;
-    sent
-}
 
 /// Posts the messages of an event, for which there is room, in order.
 pub fn post_all(out: &mut Out, stamp: u64, sends: &[Message])
@@ -22,6 +13,6 @@ pub fn post_all(out: &mut Out, stamp: u64, sends: &[Message])
     ensures room { out.new.room ≡ out.old.room }
 {
     for message in sends {
-        out.post(stamped(message, stamp));
+        out.post(message, stamp);
     }
 }

@@ -85,7 +85,7 @@ pub fn start(alloc: Global, setup: &Setup, code: &Code, me: NodeId) -> Result<St
         instructions: 0,
         handled: 0,
         sent: 0,
-        cells: start_cells(alloc, setup, me)?,
+        cells: start_cells(alloc, setup, me)?.into_vec(),
         blocks,
         conts: Conts::new(alloc),
         deferred: Deferred::new(alloc, setup.shape().blocks())?,

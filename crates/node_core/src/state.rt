@@ -5,7 +5,7 @@ use deferred_queues::Deferred;
 use dsm_runs::Mode;
 use handler_vm::{Around, Cell, Doors};
 use node_parts::{Fronts, Log, Out};
-use tw_base::{End, Listed};
+use tw_base::End;
 
 /// All of a node that changes.
 #[derive(Drop)]
@@ -17,7 +17,7 @@ pub struct State {
     pub instructions: u32,
     pub handled: u32,
     pub sent: u32,
-    pub cells: Listed<Cell>,
+    pub cells: Vec<Cell>,
     pub blocks: Blocks,
     pub conts: Conts,
     pub deferred: Deferred,

@@ -1,7 +1,9 @@
-ghost use Rattle.std.specs.Prelude.{◌≡◌, ◌<◌, true, None};
+ghost use Rattle.std.specs.Prelude.{◌≡◌, ◌<◌, is_some, slice_set, true, None, Some};
+ghost use Rattle.std.specs.List.{slice_index_or};
 ghost use Rattle.tw_base.specs.declared.entry.Event.TheVariants as event;
 ghost use Rattle.block_tags.specs.Copies.{tag_of};
 ghost use Rattle.dsm_runs.specs.Events.{IsRefused};
+ghost use Rattle.dsm_runs.specs.Messages.{place};
 ghost use Rattle.dsm_runs.specs.Setups.{asked};
 ghost use Rattle.node_core.specs.States.{IsNode, shown_of};
 ghost use Rattle.node_meaning.specs.Nodes.{front_at, test_of};
@@ -12,7 +14,8 @@ use crate::state::State;
 use dsm_runs::{Mode, Setup};
 use handler_code::Code;
 use node_meaning::{handler_events_are_made, nodes_are_ready_for_handlers};
-use tw_base::{Act, BlockId, Chan, Data, NodeId, Value};
+use node_parts::Fronts;
+use tw_base::{Act, BlockId, Chan, Data, Message, NodeId, Value};
 
 /// The event of a refused access: the node is blocked, and its fault is handled.
 pub fn fault(setup: &Setup, code: &Code, me: NodeId, state: &mut State, store: bool, block: BlockId)
@@ -60,6 +63,21 @@ pub fn redeliver(setup: &Setup, code: &Code, me: NodeId, state: &mut State)
     handle(setup, code, me, state, &message, act, stamp);
 }
 
+/// Takes the message that is kept of the wire from a node, where one is.
+fn take_front(fronts: &mut Fronts, from: NodeId, chan: Chan) -> Message
+    requires { is_some (slice_index_or fronts.old.items (place from chan) None) ≡ true }
+    ensures taken { slice_index_or fronts.old.items (place from chan) None ≡ Some result }
+    ensures items { fronts.new.items ≡ slice_set fronts.old.items (place from chan) None }
+    ensures accepted { fronts.new.accepted ≡ fronts.old.accepted }
+{
+    let Some(front) = fronts.front(from, chan) else {
+        unreachable!()
+    };
+    let message = *front;
+    fronts.clear(from, chan);
+    message
+}
+
 /// Handles the message that is kept of the wire from a node.
 pub fn deliver(setup: &Setup, code: &Code, me: NodeId, state: &mut State, from: NodeId, chan: Chan)
     requires node { IsNode setup.now code.now me state.old }
@@ -76,7 +94,7 @@ pub fn deliver(setup: &Setup, code: &Code, me: NodeId, state: &mut State, from: 
     // without these the proof does not find the types of a message's parts
     let _value: Option<Value> = None;
     let _data: Option<Data> = None;
-    let message = state.fronts.take(from, chan).unwrap();
+    let message = take_front(&mut state.fronts, from, chan);
     let stamp = state.clock.max(message.stamp) + 1;
     state.handled += 1;
     let act = Act::Delivered {

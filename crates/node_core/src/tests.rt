@@ -41,16 +41,25 @@ pub fn may_instruct(setup: &Setup, state: &State) -> bool
         && state.clock < u64::MAX
 }
 
-/// What a redelivery and a delivery both need of the node.
-pub fn may_handle(setup: &Setup, state: &State) -> bool
+/// What a redelivery and a delivery both need of the node, of which is known whether it may make an instruction event.
+fn may_handle_beside(setup: &Setup, state: &State, instructs: bool) -> bool
+    requires { instructs ≡ may_instruct setup.now (as_tested setup.now state.now) }
     ensures { result ≡ may_handle setup.now (as_tested setup.now state.now) }
 {
     let shape = setup.shape();
     state.failed.is_none()
-        && !(is_woken(state.mode) && may_instruct(setup, state))
+        && !(is_woken(state.mode) && instructs)
         && state.handled < shape.handler_budget()
         && state.sent < shape.handler_budget()
         && state.clock < u64::MAX
+}
+
+/// What a redelivery and a delivery both need of the node.
+pub fn may_handle(setup: &Setup, state: &State) -> bool
+    ensures { result ≡ may_handle setup.now (as_tested setup.now state.now) }
+{
+    let instructs = may_instruct(setup, state);
+    may_handle_beside(setup, state, instructs)
 }
 
 fn is_early(front: Option<&Message>) -> bool
@@ -112,7 +121,7 @@ pub fn all_tests(setup: &Setup, state: &State) -> u32
     ensures small { result < 2 ^ (2 + 2 * setup.now.shape.nodes) }
 {
     let instructs = may_instruct(setup, state);
-    let handles = may_handle(setup, state);
+    let handles = may_handle_beside(setup, state, instructs);
     let eligible = state.deferred.has_eligible();
     let early = early_fronts(state, handles, eligible);
     let redelivers = both(handles, eligible);

@@ -84,22 +84,20 @@ impl Fronts {
         ensures accepted { self.new.accepted ≡ slice_set self.old.accepted (place message.from message.chan) (message.number + 1) }
     {
         let at = place(message.from, message.chan);
-        self.early = put(self.early, at as u8, message.stamp < u64::MAX);
-        self.accepted[at] = message.number + 1;
+        let (number, early) = (message.number, message.stamp < u64::MAX);
         let front = Some(message);
         self.items[at] = front;
+        self.early = put(self.early, at as u8, early);
+        self.accepted[at] = number + 1;
     }
 
-    /// Takes the message that is kept of the wire from a node.
-    pub fn take(&mut self, from: NodeId, chan: Chan) -> Option<Message>
-        ensures taken { result ≡ slice_index_or self.old.items (place from chan) None }
+    /// Keeps nothing of the wire from a node.
+    pub fn clear(&mut self, from: NodeId, chan: Chan)
         ensures items { self.new.items ≡ slice_set self.old.items (place from chan) None }
         ensures accepted { self.new.accepted ≡ self.old.accepted }
     {
         let at = place(from, chan);
-        let front = self.items[at];
         self.early = put(self.early, at as u8, false);
         self.items[at] = None;
-        front
     }
 }

@@ -36,12 +36,14 @@ fn reserve<T: Drop>(items: &mut VecDeque<T>, count: usize) -> Result<(), Memory>
     Ok(())
 }
 
-fn with_number(message: Message, number: u64) -> Message
-    ensures { result ≡ record message { number = number } }
+/// The message as it goes onto its wire.
+fn sent(message: &Message, stamp: u64, number: u64) -> Message
+    ensures { result ≡ record message.now { number = number; stamp = stamp } }
 {
-    let mut numbered = message;
-    numbered.number = number;
-    numbered
+    let mut sent = *message;
+    sent.number = number;
+    sent.stamp = stamp;
+    sent
 }
 
 impl Out {
@@ -83,19 +85,19 @@ impl Out {
         self.waiting.pop_front()
     }
 
-    /// Gives a message, for which there is room, the next number on its wire, and puts it behind the others.
-    pub fn post(&mut self, message: Message)
+    /// Gives a message, for which there is room, this stamp and the next number on its wire, and puts it behind the others.
+    pub fn post(&mut self, message: &Message, stamp: u64)
         requires room { length self.old.waiting < self.old.room }
-        requires few { slice_index self.old.posted (place message.to message.chan) < 2 ^ 64 - 1 }
-        ensures waiting { self.new.waiting ≡ self.old.waiting ++ record message { number = slice_index self.old.posted (place message.to message.chan) } ∷ [] }
-        ensures posted { self.new.posted ≡ slice_set self.old.posted (place message.to message.chan) (slice_index self.old.posted (place message.to message.chan) + 1) }
+        requires few { slice_index self.old.posted (place message.now.to message.now.chan) < 2 ^ 64 - 1 }
+        ensures waiting { self.new.waiting ≡ self.old.waiting ++ record message.now { number = slice_index self.old.posted (place message.now.to message.now.chan); stamp = stamp } ∷ [] }
+        ensures posted { self.new.posted ≡ slice_set self.old.posted (place message.now.to message.now.chan) (slice_index self.old.posted (place message.now.to message.now.chan) + 1) }
         ensures room { self.new.room ≡ self.old.room }
     {
         let at = place(message.to, message.chan);
         let number = self.posted[at];
-        let numbered = with_number(message, number);
-        let _parts = (numbered.args[0], numbered.payload);
-        self.waiting.push_back_reserved(numbered);
+        let sent = sent(message, stamp, number);
+        let _parts = (sent.args[0], sent.payload);
+        self.waiting.push_back_reserved(sent);
         self.posted[at] = number + 1;
     }
 }

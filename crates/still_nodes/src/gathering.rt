@@ -31,22 +31,21 @@ impl Model for Gathered {
     ghost view = { λ g. record { logs = g.logs.items; taken = g.taken; finals = g.finals; words = g.words } };
 }
 
-/// Puts a copy of a node's log behind the others.
-fn push_log(alloc: Global, logs: &mut Vec<Listed<Entry>>, node: &Node) -> Result<(), Memory>
-    ensures { OnOk result (logs.new.items ≡ logs.old.items ++ node.now.log ∷ []) }
+/// Puts the log of a node that is done with behind the others.
+fn push_log(logs: &mut Vec<Listed<Entry>>, node: Node<'_>) -> Result<(), Memory>
+    ensures { OnOk result (logs.new.items ≡ logs.old.items ++ node.entry.log ∷ []) }
 {
-    let log = Listed::from_slice(alloc, node.entries())?;
-    logs.push(log)?;
+    logs.push(node.into_log())?;
     Ok(())
 }
 
-/// The logs of nodes, by node.
-fn logs_of(alloc: Global, nodes: &[Node]) -> Result<Vec<Listed<Entry>>, Memory>
-    ensures { IfOk result (λ logs. logs.items ≡ map (λ n. n.log) nodes.now) }
+/// The logs of nodes that are done with, by node.
+fn logs_of(alloc: Global, nodes: Vec<Node<'_>>) -> Result<Vec<Listed<Entry>>, Memory>
+    ensures { let all = nodes.entry.items in IfOk result (λ logs. logs.items ≡ map (λ n. n.log) all) }
 {
     let mut logs = Vec::new(alloc);
     for node in nodes {
-        push_log(alloc, &mut logs, node)?;
+        push_log(&mut logs, node)?;
     }
     Ok(logs)
 }
@@ -61,7 +60,7 @@ impl<'a> Still<'a> {
         let finals = finals_of(alloc, &self)?;
         let words = words_of(alloc, &self)?;
         let Still { nodes, taken, .. } = self;
-        let logs = logs_of(alloc, &nodes)?;
+        let logs = logs_of(alloc, nodes)?;
         Ok(Gathered {
             logs,
             taken: taken.into_listed(),

@@ -60,7 +60,6 @@ fn act_at(node: &mut Node<'_>, taken: &mut TakenEntries, event: &Event) -> Resul
     make_room(node, taken)?;
     make_at(node, event);
     let entry = node.last_entry().unwrap();
-    let _parts = (entry.act, entry.after);
     taken.push(entry);
     Ok(())
 }

@@ -41,10 +41,11 @@ impl TakenEntries {
     }
 
     /// Puts an entry, for which there is room, behind the others.
-    pub(crate) fn push(&mut self, entry: Entry)
+    pub(crate) fn push(&mut self, entry: &Entry)
         requires { length self.old.list < self.old.room }
-        ensures { self.new ≡ record { list = self.old.list ++ entry ∷ []; room = self.old.room } }
+        ensures { self.new ≡ record { list = self.old.list ++ entry.now ∷ []; room = self.old.room } }
     {
+        let entry = *entry;
         let _parts = (entry.act, entry.after);
         self.entries.push_reserved(entry);
     }

@@ -1,5 +1,5 @@
-use Rattle.deferred_queues.proofs.Calling.{IsFound}
+use Rattle.deferred_queues.proofs.Calling.{IsSought}
 use Rattle.deferred_queues.proofs.deferred.earliest.Given as goal
 
 abbrev pub invariant-loop-at : goal.invariant-loop-at
-invariant-loop-at l = IsFound l.queues l.at l.found
+invariant-loop-at l = IsSought l.queues l.at l.found l.left

@@ -33,17 +33,17 @@ returns c =
     c.requires c.run-ran.ensures c.settle.ensures c.sends.ensures in
     let there = cells_there c.args.setup.now c.args.code.now c.args.me c.args.state.now c.run-ran.new.state
     c.settle.new.state c.args.message.now c.run-ran.result c.args.stamp c.requires c.run-ran.ensures c.settle.ensures in
-    let cell = cell_read c.args.setup.now c.args.me c.args.message.now.block c.settle.new.state.cells c.items.result.now
-    c.from.result c.get.result c.index-items-from.result there c.items.ensures c.from.ensures c.get.ensures.value
-    c.index-items-from.is in
-    let there_cell : (get_or c.items.result.now c.from.result c.index-items-from.result).state
-    ≡ (slice_index_or c.settle.new.state.cells c.args.message.now.block
+    let cell = cell_read c.args.setup.now c.args.me c.args.message.now.block c.settle.new.state.cells.items
+    c.settle.new.state.cells.items c.from.result c.get.result c.index.result.now there refl c.from.ensures c.get.ensures.value
+    c.index.ensures in
+    let there_cell : c.index.result.now.state
+    ≡ (slice_index_or c.settle.new.state.cells.items c.args.message.now.block
     (no_cell c.args.setup.now c.args.me c.args.message.now.block)).state = ap (λ (x : Cell). x.state)
-    (sym c.index-items-from.is ∙ cell) in
+    cell in
     let left : Some (record {
       block = c.args.message.now.block;
       state =
-          (get_or c.items.result.now c.from.result c.index-items-from.result).state;
+          c.index.result.now.state;
       tag = c.tag.result;
       end =
           c.run-ran.result.end;
@@ -67,7 +67,7 @@ returns c =
           (record {
             block = c.args.message.now.block;
             state =
-                (get_or c.items.result.now c.from.result c.index-items-from.result).state;
+                c.index.result.now.state;
             tag = c.tag.result;
             end =
                 c.run-ran.result.end;

@@ -9,10 +9,10 @@ returns-clause-tests c = λ code me.
     let e = c.early_fronts-early.ensures in
     let n = c.nodes-nodes.ensures.value ∙ ap (λ z. z.nodes) c.shape.ensures.value in
     tests_told (shown_of c.args.setup.now code me c.args.state.now) c.tests_word.result e.0 c.may_instruct-instructs.result
-    c.may_handle-handles.result c.has_eligible-eligible.result c.shape.ensures.valid.limits.nodes e.1 c.may_instruct-instructs.ensures
-    c.may_handle-handles.ensures c.has_eligible-eligible.ensures
+    c.may_handle_beside-handles.result c.has_eligible-eligible.result c.shape.ensures.valid.limits.nodes e.1 c.may_instruct-instructs.ensures
+    c.may_handle_beside-handles.ensures c.has_eligible-eligible.ensures
     (word_is c.args.setup.now.shape.nodes c.nodes-nodes.result c.tests_word.result e.0
-    c.early_fronts-early.result c.may_instruct-instructs.result c.may_handle-handles.result c.has_eligible-eligible.result
+    c.early_fronts-early.result c.may_instruct-instructs.result c.may_handle_beside-handles.result c.has_eligible-eligible.result
     c.both-redelivers.result n c.both-redelivers.ensures e.2 c.tests_word.ensures.tests)
 
 pub returns-clause-small : goal.returns-clause-small

@@ -1,5 +1,5 @@
-use Rattle.std.proofs.Common.{◌≡◌, List, length, set, arith, ap, ◌∙◌, subst}
-use Rattle.std.specs.List.{list_any}
+use Rattle.std.proofs.Common.{◌≡◌, List, length, set, arith, ap, sym, ◌∙◌, subst}
+use Rattle.std.specs.List.{count_by, list_any}
 use Rattle.dsm_runs.specs.declared.mode.Waiting.{Waiting}
 use Rattle.dsm_runs.specs.Tests.{has_eligible}
 use Rattle.deferred_queues.specs.Deferrals.{DeferredList, TakesFirst}
@@ -8,8 +8,12 @@ use Rattle.deferred_queues.proofs.Calling.{counts_one, pop_block, pop_counted, p
 use Rattle.deferred_queues.proofs.Queueing.{any_open}
 use Rattle.deferred_queues.proofs.deferred.Deferred.take_first.Goals as goal
 
-pub earliest-at-requires : goal.earliest-at-requires
-earliest-at-requires c =
+pub earliest-at-requires-clause-count : goal.earliest-at-requires-clause-count
+earliest-at-requires-clause-count c =
+    c.self.invariant.counted ∙ ap (λ (qs : List BlockQueue). count_by is_open qs) (sym c.as_slice.ensures.value)
+
+pub earliest-at-requires-clause-any : goal.earliest-at-requires-clause-any
+earliest-at-requires-clause-any c =
     ap (λ (qs : List BlockQueue). list_any is_open qs) c.as_slice.ensures.value
     ∙ any_open c.self.inside.next c.self.inside.queues.items c.self.invariant.sound
     ∙ ap (λ (v : DeferredList). has_eligible v.list) c.self.view_is ∙ c.requires

@@ -7,7 +7,7 @@ pub returns-clause-gathered : goal.returns-clause-gathered
 returns-clause-gathered c =
     let s = c.args.self in
     let whole : AreWhole s = subst (λ (x : StillShown). AreWhole x) c.self.view_is c.self.invariant in
-    let nodes : c.deref.result.now ≡ s.nodes = c.deref.ensures.value ∙ ap (λ (x : StillShown). x.nodes) c.self.view_is in
+    let nodes : c.self.inside.nodes.items ≡ s.nodes = ap (λ (x : StillShown). x.nodes) c.self.view_is in
     λ g still. collected s g _ whole c.requires.rest (record {
       logs = c.in_ok-logs.ensures ∙ ap logs_of nodes;
       finals = c.in_ok-finals.ensures;
