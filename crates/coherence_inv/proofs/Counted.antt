@@ -1,79 +1,11 @@
 -- A run pays for itself, event by event.
-use Rattle.std.proofs.Common.{◌≡◌, ℕ, ◌+◌, ◌-◌, ◌*◌, ◌≤◌, List, [], ◌∷◌, arith, refl, ap, ◌∙◌}
-use Rattle.tw_base.specs.Lists.{how_many}
-use Rattle.tw_base.specs.declared.entry.Entry.{Entry}
-use Rattle.mini_asm.specs.Run.{Machine}
-use Rattle.dsm_runs.specs.Flat.{flat_start}
-use Rattle.dsm_runs.specs.Setups.{IsSetup, Setup}
-use Rattle.dsm_runs.specs.Worlds.{Runs, World, start}
-use Rattle.block_spots.specs.Notes.{Note, notes, kept_notes}
-use Rattle.coherence_inv.specs.Laws.{IsKept}
-use Rattle.coherence_inv.specs.Potential.{RunsAreCounted, faults_in, handled_in, is_fault_event, is_handler_event, potential, potential_of, price, rest_weight, sent_in, to_send, to_send_of, weigh}
-use Rattle.coherence_inv.specs.Parts.{home_seen, seen}
-use Rattle.coherence_inv.proofs.Keeping.{events_keep, starts_kept}
-use Rattle.coherence_inv.proofs.Seen.{events_pay}
-use Rattle.block_spots.proofs.Sums.{sum_below_same}
-use Rattle.coherence_inv.proofs.Totals.{sum_below_const}
-use Rattle.coherence_inv.proofs.Views.{notes_nil, kept_notes_nil}
-use Rattle.coherence_inv.proofs.Weights.{as_total, weight_of}
-use Rattle.block_spots.specs.Views.{layout}
-use Rattle.teapot_meaning.specs.declared.state.StateVal as X
+use Rattle.coherence_frame.proofs.Counted as counted
+use Rattle.coherence_frame.proofs.Seen as frame
+use Rattle.coherence_inv.specs.Potential.{EventsPay, RunsAreCounted}
+use Rattle.coherence_inv.proofs.Scheme.{scheme}
 
--- ---- the arithmetic of one event and the rest of a run
-
-times_more : (a x y : ℕ) → a * (x + y) ≡ a * x + a * y
-times_more a x y = grind arith
-
-joins : (a k0 k p q r f0 f : ℕ) → k0 + q ≤ p + a * f0 → k + r ≤ q + a * f → k0 + k + r ≤ p + a * (f0 + f)
-joins a k0 k p q r f0 f u v = omega (arith, times_more a f0 f)
-
--- ---- at the start nothing is to be done
-
-module _ (s : Setup) where
-  no_weight : (f : Note → ℕ) (b : ℕ) → weight_of f (layout s) (seen s (start s)) b ≡ 0
-  no_weight f b = as_total f (layout s) (seen s (start s)) b ∙ sum_below_same s.shape.nodes _ (λ j. 0) (λ j l. one j) ∙ sum_below_const s.shape.nodes 0
-    where
-      one : (j : ℕ) → how_many f (notes b []) + how_many f (kept_notes b j []) + how_many f (notes b []) + how_many f (notes b []) ≡ 0
-      one j = omega (arith, ap (how_many f) (notes_nil b), ap (how_many f) (kept_notes_nil b j))
-
-  no_rest : (v b : ℕ) → rest_weight v (home_seen s (start s) b).rest ≡ 0
-  unfolding X.out-StateVal denote.Hole.Carrier.out X.roll-StateVal denote.Hole.Carrier.roll
-  no_rest v b = refl
-
-  nothing_to_do : potential s (start s) ≡ 0
-  nothing_to_do = sum_below_same s.shape.blocks (potential_of s (start s)) (λ b. 0) (λ b l. one b) ∙ sum_below_const s.shape.blocks 0
-    where
-      one : (b : ℕ) → potential_of s (start s) b ≡ 0
-      one b = omega (arith, no_weight (weigh s.shape.nodes) b, no_rest s.shape.nodes b)
-
-  nothing_to_send : to_send s (start s) ≡ 0
-  nothing_to_send = sum_below_same s.shape.blocks (to_send_of s (start s)) (λ b. 0) (λ b l. one b) ∙ sum_below_const s.shape.blocks 0
-    where
-      one : (b : ℕ) → to_send_of s (start s) b ≡ 0
-      one b = omega (arith, no_weight (price s.shape.nodes) b, no_rest 1 b)
-
--- ---- runs
-
--- what a piece of a run costs
-pub record CostsOf (s : Setup) (g : World) (j : List Entry) (h : World) : Type 0 where
-  pub handlers : handled_in j + potential s h ≤ potential s g + (3 * s.shape.nodes - 1) * faults_in j
-  pub sends : sent_in j + to_send s h ≤ to_send s g + 2 * s.shape.nodes * faults_in j
-
-pub run_costs : (s : Setup) (g : World) (j : List Entry) (h : World) (m : Machine) → IsSetup s → IsKept s g m → Runs s g j h → CostsOf s g j h
-run_costs s g [] h m is k r = record {
-  handlers = let e : potential s g ≡ potential s h = ap (potential s) r in omega (arith, e);
-  sends = let e : to_send s g ≡ to_send s h = ap (to_send s) r in omega (arith, e);
-}
-run_costs s g (e ∷ j) h m is k r =
-    let first = events_pay s g e r.0 m is k r.1 in
-    let on = events_keep s g e r.0 m is k r.1 in
-    let rest = run_costs s r.0 j h on.goes.next is on.kept r.2 in
-    record {
-      handlers = joins (3 * s.shape.nodes - 1) (is_handler_event e.act) (handled_in j) (potential s g) (potential s r.0) (potential s h) (is_fault_event e.act) (faults_in j) first.handlers rest.handlers;
-      sends = joins (2 * s.shape.nodes) e.sends (sent_in j) (to_send s g) (to_send s r.0) (to_send s h) (is_fault_event e.act) (faults_in j) first.sends rest.sends;
-    }
+pub events_pay : EventsPay
+events_pay = frame.events_pay scheme
 
 pub runs_are_counted : RunsAreCounted
-runs_are_counted s j g is stache r =
-    let c = run_costs s (start s) j g (flat_start s) is (starts_kept s is stache) r in
-    record { handlers = omega (arith, c.handlers, nothing_to_do s); sends = omega (arith, c.sends, nothing_to_send s) }
+runs_are_counted = counted.runs_are_counted scheme

@@ -1,70 +1,42 @@
--- What is proved of coherence: each event keeps it, beside one flat memory.
-use Rattle.std.specs.Prelude.{◌≡◌, ℕ, ◌<◌, true, false, slice_index, List, []}
+-- What is proved of coherence under Stache: each event keeps it, beside one flat memory.
+use Rattle.std.specs.Prelude.{List}
 use Rattle.tw_base.specs.declared.entry.Entry.{Entry}
-use Rattle.tw_base.specs.declared.message.Chan.{Chan}
-use Rattle.block_tags.specs.Copies.{block_slice, permits}
 use Rattle.mini_asm.specs.Run.{Machine}
-use Rattle.dsm_runs.specs.Flat.{Follows, FlatGoesOn, IsBeside, IsDue, flat_start}
-use Rattle.dsm_runs.specs.Events.{tag_here, word_here}
-use Rattle.dsm_runs.specs.Invariants.{IsRunState}
-use Rattle.dsm_runs.specs.Setups.{IsSetup, Setup, size_of}
-use Rattle.dsm_runs.specs.Worlds.{Runs, Step, World, start}
-use Rattle.stache_tree.specs.Tree.{IsStache}
-use Rattle.coherence_inv.specs.Parts.{IsCoherent, current}
+use Rattle.dsm_runs.specs.Setups.{Setup}
+use Rattle.dsm_runs.specs.Worlds.{World}
+use Rattle.coherence_frame.specs.Laws as frame
+pub use Rattle.coherence_frame.specs.Laws.{HasReader, NoneInFlight}
+use Rattle.coherence_inv.specs.Parts.{wording}
 
 -- the flat machine's words are the current ones, and its processors the nodes'
-pub record IsTied (s : Setup) (g : World) (m : Machine) : Type 0 where
-  pub words : (b : ℕ) → b < s.shape.blocks → current s g b ≡ block_slice s.shape.words m.words b
-  pub beside : IsBeside s g m
+abbrev pub IsTied : Setup → World → Machine → Type 0
+IsTied = frame.IsTied wording
 
 -- what stands in every state of a run under Stache, beside a flat machine
-pub record IsKept (s : Setup) (g : World) (m : Machine) : Type 0 where
-  pub state : IsRunState s g
-  pub coherent : IsCoherent s g
-  pub tied : IsTied s g m
+abbrev pub IsKept : Setup → World → Machine → Type 0
+IsKept = frame.IsKept wording
 
 -- an event keeps it: what it read was due, and the flat machine does the same
-pub record KeepsOn (s : Setup) (m : Machine) (e : Entry) (h : World) : Type 0 where
-  pub due : IsDue e.act m.words
-  pub goes : FlatGoesOn s m e h
-  pub kept : IsKept s h goes.next
+abbrev pub KeepsOn : Setup → Machine → Entry → World → Type 0
+KeepsOn = frame.KeepsOn wording
 
 abbrev pub StartsKept : Type 0
-StartsKept = (s : Setup) → IsSetup s → IsStache s.protocol → IsKept s (start s) (flat_start s)
+StartsKept = frame.StartsKept wording
 
 abbrev pub EventsKeep : Type 0
-EventsKeep =
-    (s : Setup) (g : World) (e : Entry) (h : World) (m : Machine) → IsSetup s → IsKept s g m → Step s g e h → KeepsOn s m e h
+EventsKeep = frame.EventsKeep wording
 
 -- a run, and the flat machine that explains it
-pub record Explained (s : Setup) (j : List Entry) (g : World) : Type 0 where
-  pub flat : Machine
-  pub follows : Follows (flat_start s) j flat
-  pub kept : IsKept s g flat
+abbrev pub Explained : Setup → List Entry → World → Type 0
+Explained = frame.Explained wording
 
 abbrev pub RunsAreExplained : Type 0
-RunsAreExplained =
-    (s : Setup) (j : List Entry) (g : World) → IsSetup s → IsStache s.protocol → Runs s (start s) j g → Explained s j g
-
--- ---- words at the end
+RunsAreExplained = frame.RunsAreExplained wording
 
 -- what a tag lets a node read is the flat machine's word
 abbrev pub CopiesAreCurrent : Type 0
-CopiesAreCurrent =
-    (s : Setup) (g : World) (m : Machine) (i address : ℕ) → IsSetup s → IsKept s g m → i < s.shape.nodes → address < size_of s →
-    permits (tag_here s (g.locals i).blocks address) false ≡ true →
-    word_here s (g.locals i).blocks address ≡ slice_index m.words address
-
-abbrev pub NoneInFlight : Setup → World → Type 0
-NoneInFlight s g = (f t : ℕ) (c : Chan) → f < s.shape.nodes → t < s.shape.nodes → g.wires f t c ≡ []
+CopiesAreCurrent = frame.CopiesAreCurrent wording
 
 -- where no message is in flight some node may read each block
-pub record HasReader (s : Setup) (g : World) (b : ℕ) : Type 0 where
-  pub node : ℕ
-  pub within : node < s.shape.nodes
-  pub may : permits ((g.locals node).blocks b).tag false ≡ true
-
 abbrev pub BlocksHaveReaders : Type 0
-BlocksHaveReaders =
-    (s : Setup) (g : World) (m : Machine) (b : ℕ) → IsSetup s → IsKept s g m → NoneInFlight s g → b < s.shape.blocks →
-    HasReader s g b
+BlocksHaveReaders = frame.BlocksHaveReaders wording

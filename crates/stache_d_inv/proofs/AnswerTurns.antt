@@ -1,34 +1,19 @@
 -- The turn of a home at an ACK or a PUT, and at a fault of its own.
 use Rattle.std.proofs.Common.{◌≡◌, ◌≢◌, ℕ, ◌+◌, ◌-◌, ◌<◌, ◌≤◌, Bool, true, false, List, [], ◌∷◌, ◌++◌, Some, arith, refl, sym, ap, ◌∙◌, inl, inr, ◌⊎◌}
 use Rattle.std.proofs.lemmas.Bool.{cases_lt}
-use Rattle.std.proofs.lemmas.List.{append-nil}
 use Rattle.std.proofs.lemmas.Bool.Decides.{nat_tests}
-use Rattle.block_spots.specs.Cases.{Kind, RdFault, WrFault, DataRo, DataRw, Put, Ack, Recall, RecallRo, PutRo, State, HomeRw, HomeRo, HomeExcl, HomeAcks, HomePut, Rest, NoRest, OfHome, OfLoad, OfRo, OfRw, Message, Here, Kept, No, Stale, Effect, nobody, with_node, members}
-use Rattle.block_spots.specs.Notes.{Note, NAck, NPut, NPutRo, Spot, note, is_rd_fault, is_wr_fault, held_home}
+use Rattle.block_spots.specs.Cases.{Kind, RdFault, WrFault, DataRo, DataRw, Put, Ack, Recall, RecallRo, PutRo, State, HomeRw, HomeRo, HomeExcl, HomeAcks, HomePut, Rest, NoRest, OfHome, OfLoad, OfRo, OfRw, Message, Here, No, Stale, Effect, nobody, with_node, members}
+use Rattle.block_spots.specs.Notes.{NAck, NPut, NPutRo, Spot, note, is_rd_fault, is_wr_fault, held_home}
 use Rattle.stache_d_inv.specs.Coherent.{AtCache, AtBlock, IsFault}
 use Rattle.stache_table.specs.Handling.{carrying, plain, inv_all}
 use Rattle.stache_d_table.specs.Handling.{handle_by}
 use Rattle.tw_base.specs.Lists.{Each, how_many}
 use Rattle.tw_base.specs.declared.message.Chan.TheVariants.{One}
 use Rattle.tw_base.specs.declared.value.Tag.TheVariants.{Invalid, ReadOnly, ReadWrite}
-use Rattle.stache_d_inv.proofs.Views.{sent, sent_nil, sent_one, sent_one_past, sent_inv_all, inv_if}
-use Rattle.stache_d_inv.proofs.Blocks.{OwnSame, row_11, row_12, row_13, row_15, row_16, row_17, row_load, row_own, row_3, row_7, row_8}
+use Rattle.stache_d_inv.proofs.Blocks.{row_11, row_12, row_13, row_15, row_16, row_17, row_load, row_own, row_3, row_7, row_8}
 use Rattle.stache_d_inv.proofs.Homes.{IsOfRo, IsOfRw}
-use Rattle.stache_d_inv.proofs.Turns.{stays}
-
-abbrev pub kept_if : Kept → Note → List Note
-kept_if No x = []
-kept_if Stale x = x ∷ []
-
-pub record AnswerTurn (h i : ℕ) (m : Message) (e : Effect) (spots spots2 : ℕ → Spot) : Type 0 where
-  pub rest : List Note
-  pub own : OwnSame (spots h) (spots2 h)
-  pub others : (j : ℕ) → j ≢ h → j ≢ i → spots2 j ≡ record (spots j) { down = (spots j).down ++ sent m.block e.sends h j One }
-  pub came : (spots i).up ≡ note m ∷ rest
-  pub at_sender : spots2 i ≡ record (spots i) { up = rest; down = (spots i).down ++ sent m.block e.sends h i One; kept = (spots i).kept ++ kept_if e.kept (note m) }
-
-pub lone : (s t : Spot) (r z : List Note) (k : Kept) (x : Note) → t ≡ record s { up = r; down = s.down ++ z; kept = s.kept ++ kept_if k x } → z ≡ [] → k ≡ No → t ≡ record s { up = r }
-lone s t r z k x e p q = e ∙ rw (p, q) (ap (λ y. record s { up = r; down = y; kept = s.kept ++ [] }) (append-nil s.down) ∙ ap (λ y. record s { up = r; kept = y }) (append-nil s.kept))
+use Rattle.coherence_frame.proofs.Views.{sent, sent_nil, sent_one, sent_one_past, sent_inv_all, inv_if}
+use Rattle.coherence_frame.proofs.Turning.{stays, AnswerTurn, OwnTurn, kept_if, only_sender, and_asker}
 
 module _ (n h i : ℕ) (cur : List ℕ) (home : Here) (m : Message) (e : Effect) (spots spots2 : ℕ → Spot) (a : AtBlock n h cur home spots) (l : i < n) (d : i ≢ h) (does : handle_by home.state n h h home m ≡ Some e) (t : AnswerTurn h i m e spots spots2) where
   -- an answer comes only where it is waited for
@@ -40,22 +25,6 @@ module _ (n h i : ℕ) (cur : List ℕ) (home : Here) (m : Message) (e : Effect)
       go HomePut p Put q c u = inr (inl (p, q))
       go HomePut p PutRo q c u = inr (inr (p, q))
       go st p k q c u = absurd (grind arith)
-
-  only_sender : e.kept ≡ No → e.sends ≡ [] → ((j : ℕ) → j ≢ h → j ≢ i → spots2 j ≡ spots j) × (spots2 i ≡ record (spots i) { up = t.rest })
-  only_sender k p = (
-    (λ j x y. stays (spots j) (spots2 j) _ (t.others j x y) (ap (λ z. sent m.block z h j One) p ∙ sent_nil m.block h j One)),
-    lone (spots i) (spots2 i) t.rest _ _ (note m) t.at_sender (ap (λ z. sent m.block z h i One) p ∙ sent_nil m.block h i One) k,
-  )
-
-  and_asker : (x : Message) → e.kept ≡ No → e.sends ≡ x ∷ [] → x.block ≡ m.block → x.from ≡ h → x.to ≢ h → x.chan ≡ One →
-      ((j : ℕ) → j ≢ h → j ≢ i → j ≢ x.to → spots2 j ≡ spots j)
-      × (i ≢ x.to → spots2 i ≡ record (spots i) { up = t.rest })
-      × (i ≢ x.to → spots2 x.to ≡ record (spots x.to) { down = (spots x.to).down ++ note x ∷ [] })
-  and_asker x k p xb xf xt xc = (
-    (λ j u v w. stays (spots j) (spots2 j) _ (t.others j u v) (ap (λ z. sent m.block z h j One) p ∙ sent_one_past m.block h j One x (λ y. w (sym y)))),
-    (λ u. lone (spots i) (spots2 i) t.rest _ _ (note m) t.at_sender (ap (λ z. sent m.block z h i One) p ∙ sent_one_past m.block h i One x (λ y. u (sym y))) k),
-    (λ u. t.others x.to xt (λ y. u (sym y)) ∙ ap (λ z. record (spots x.to) { down = (spots x.to).down ++ z }) (ap (λ z. sent m.block z h x.to One) p ∙ sent_one m.block h x.to One x xb xf refl xc)),
-  )
 
   is_ack_more : home.state ≡ HomeAcks → m.kind ≡ Ack → 1 < home.acks → e ≡ record { here = record home { acks = home.acks - 1 }; sends = []; kept = No; freed = false; woke = false }
   is_ack_more p k o = grind (arith, nat_tests)
@@ -106,19 +75,19 @@ module _ (n h i : ℕ) (cur : List ℕ) (home : Here) (m : Message) (e : Effect)
       more : 1 < home.acks → AtBlock n h cur e.here spots2
       more o =
           let q = is_ack_more p k o in
-          let w = only_sender (ap (λ z. z.kept) q) (ap (λ z. z.sends) q) in
+          let w = only_sender h i m e spots spots2 t (ap (λ z. z.kept) q) (ap (λ z. z.sends) q) in
           row_11 n h cur home e.here spots spots2 a i l d t.own w.0 t.rest p o (ap (λ z. z.here) q) (came_ack k) w.1
 
       go : (r : Rest) → home.rest ≡ r → home.acks < 2 → AtBlock n h cur e.here spots2
       go OfHome r o =
           let q = is_ack_home p k o r in
-          let w = only_sender (ap (λ z. z.kept) q) (ap (λ z. z.sends) q) in
+          let w = only_sender h i m e spots spots2 t (ap (λ z. z.kept) q) (ap (λ z. z.sends) q) in
           row_12 n h cur home e.here spots spots2 a i l d t.own w.0 t.rest p o r (ap (λ z. z.here) q) (came_ack k) w.1
       go (OfRw b) r o =
           let q = is_ack_rw b p k o r in
           let nb : (b < n) × (b ≢ h) = grind arith in
           let ib : i ≢ b = sender_no_asker b (inl (p, r)) in
-          let w = and_asker (carrying DataRw m.block h b home.words) (ap (λ z. z.kept) q) (ap (λ z. z.sends) q) refl refl nb.1 refl in
+          let w = and_asker h i m e spots spots2 t (carrying DataRw m.block h b home.words) (ap (λ z. z.kept) q) (ap (λ z. z.sends) q) refl refl nb.1 refl in
           row_13 n h cur home e.here spots spots2 a i b l d nb.0 nb.1 t.own w.0 (w.2 ib) t.rest p o r (ap (λ z. z.here) q) (came_ack k) w.1
       go _ r o = absurd (grind arith)
 
@@ -149,13 +118,13 @@ module _ (n h i : ℕ) (cur : List ℕ) (home : Here) (m : Message) (e : Effect)
       go : (r : Rest) → home.rest ≡ r → (r ≡ OfHome) ⊎ IsOfRw r → AtBlock n h cur e.here spots2
       go OfHome r x =
           let q = is_put_home p k r in
-          let w = only_sender (ap (λ z. z.kept) q) (ap (λ z. z.sends) q) in
+          let w = only_sender h i m e spots spots2 t (ap (λ z. z.kept) q) (ap (λ z. z.sends) q) in
           row_15 n h cur home e.here spots spots2 a i l d t.own w.0 m.payload t.rest p r (ap (λ z. z.here) q) (came_put k) w.1
       go (OfRw b) r x =
           let q = is_put_rw b p k r in
           let nb : (b < n) × (b ≢ h) = grind arith in
           let ib : i ≢ b = sender_no_asker b (inr (inr (p, r))) in
-          let w = and_asker (carrying DataRw m.block h b m.payload) (ap (λ z. z.kept) q) (ap (λ z. z.sends) q) refl refl nb.1 refl in
+          let w = and_asker h i m e spots spots2 t (carrying DataRw m.block h b m.payload) (ap (λ z. z.kept) q) (ap (λ z. z.sends) q) refl refl nb.1 refl in
           row_17 n h cur home e.here spots spots2 a i b l d nb.0 nb.1 ib t.own w.0 m.payload t.rest p r (ap (λ z. z.here) q) (w.2 ib) (came_put k) (w.1 ib)
       go _ r x = absurd (grind arith)
 
@@ -165,28 +134,18 @@ module _ (n h i : ℕ) (cur : List ℕ) (home : Here) (m : Message) (e : Effect)
       go : (r : Rest) → home.rest ≡ r → (r ≡ OfLoad) ⊎ IsOfRo r → AtBlock n h cur e.here spots2
       go OfLoad r x =
           let q = is_put_load p k r in
-          let w = only_sender (ap (λ z. z.kept) q) (ap (λ z. z.sends) q) in
+          let w = only_sender h i m e spots spots2 t (ap (λ z. z.kept) q) (ap (λ z. z.sends) q) in
           row_load n h cur home e.here spots spots2 a i l d t.own w.0 m.payload t.rest p r (ap (λ z. z.here) q) (came_put_ro k) w.1
       go (OfRo b) r x =
           let q = is_put_ro b p k r in
           let nb : (b < n) × (b ≢ h) = grind arith in
           let ib : i ≢ b = sender_no_asker b (inr (inl (p, r))) in
-          let w = and_asker (carrying DataRo m.block h b m.payload) (ap (λ z. z.kept) q) (ap (λ z. z.sends) q) refl refl nb.1 refl in
+          let w = and_asker h i m e spots spots2 t (carrying DataRo m.block h b m.payload) (ap (λ z. z.kept) q) (ap (λ z. z.sends) q) refl refl nb.1 refl in
           row_16 n h cur home e.here spots spots2 a i b l d nb.0 nb.1 ib t.own w.0 m.payload t.rest p r (ap (λ z. z.here) q) (w.2 ib) (came_put_ro k) (w.1 ib)
       go _ r x = absurd (grind arith)
 
   pub answer_turn : AtBlock n h cur e.here spots2
   answer_turn = elim waited_for [ inl w ↦ acks_turn w.0 w.1 | inr v ↦ elim v [ inl w ↦ put_turn w.0 w.1 | inr w ↦ put_ro_turn w.0 w.1 ] ]
-
--- the home's turn at its own fault, fresh or no longer deferred
-pub record OwnTurn (h : ℕ) (home : Here) (m : Message) (e : Effect) (spots spots2 : ℕ → Spot) : Type 0 where
-  pub others : (j : ℕ) → j ≢ h → spots2 j ≡ record (spots j) { down = (spots j).down ++ sent m.block e.sends h j One }
-  pub ask : (spots2 h).ask ≡ []
-  pub down : (spots2 h).down ≡ []
-  pub up : (spots2 h).up ≡ []
-  pub kept : (spots2 h).kept ≡ kept_if e.kept (note m)
-  pub unheld : held_home home.rest ≡ 0
-  pub not_all : home.state ≢ HomeRw
 
 module _ (n h : ℕ) (cur : List ℕ) (home : Here) (m : Message) (e : Effect) (spots spots2 : ℕ → Spot) (a : AtBlock n h cur home spots) (does : handle_by home.state n h h home m ≡ Some e) (t : OwnTurn h home m e spots spots2) where
   none_to : e.sends ≡ [] → (j : ℕ) → j ≢ h → spots2 j ≡ spots j

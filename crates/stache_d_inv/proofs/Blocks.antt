@@ -8,42 +8,12 @@ use Rattle.block_spots.specs.Notes.{Note, NInv, NAck, NRecall, NRecallRo, NDataR
 use Rattle.stache_d_inv.specs.Coherent.{AtCache, AtBlock, Infos, IsCacheNode, IsFault, current_in, owner_words}
 use Rattle.tw_base.specs.Lists.{one_if, sum_below, how_many, Each}
 use Rattle.tw_base.specs.declared.value.Tag.TheVariants.{Invalid, ReadOnly, ReadWrite}
-use Rattle.stache_d_inv.proofs.Counts.{no_faults}
 use Rattle.block_spots.proofs.Sums.{sum_below_same, sum_below_one, sum_below_two, members_has, members_none}
-use Rattle.stache_d_inv.proofs.Homes.{IsOfRo, IsOfRw, Loses, given_ro, given_ro_more, beside_given_ro, beside_given_ro_more, given_rw, beside_given_rw, held_back, sent_inv, sent_none, sent_inv_home, sent_none_home, given_rw_alone, beside_given_rw_alone, recalled_home, recalled_load, recalled_ro, recalled_rw, held_for_ro, held_for_rw, beside_recall, took_ack, beside_ack, all_home, gives_asker, beside_gives_asker, put_is_owners, took_put_home, beside_put_home, put_ro_is_owners, shares_load, beside_load, shares_ro, asker_ro, beside_ro, took_put_rw, asker_put_rw, beside_put_rw, moved, home_stores, given_words, recall_words, recall_ro_words, asker_words, put_words, put_ro_words, owner_words_same}
-
--- the home's own lists stay
-pub record OwnSame (s t : Spot) : Type 0 where
-  pub ask : t.ask ≡ s.ask
-  pub kept : t.kept ≡ s.kept
-  pub down : t.down ≡ s.down
-  pub up : t.up ≡ s.up
-
--- a request of cache i is taken, and answered or held
-pub record Asked (s t : Spot) (ro rw : ℕ) (sent : List Note) : Type 0 where
-  pub loses : Loses s t ro rw
-  pub down : t.down ≡ s.down ++ sent
-  pub up : t.up ≡ s.up
-
-pub current_same : (st : State) (ws : List ℕ) (x y : Spot) → owner_words x ≡ owner_words y → current_in st ws x ≡ current_in st ws y
-current_same st ws x y e = go st
-  where
-    go : (st : State) → current_in st ws x ≡ current_in st ws y
-    go HomeExcl = e
-    go HomePut = e
-    go _ = refl
+use Rattle.stache_d_inv.proofs.Homes.{IsOfRo, IsOfRw, given_ro, given_ro_more, beside_given_ro, beside_given_ro_more, given_rw, beside_given_rw, held_back, sent_inv, sent_none, sent_inv_home, sent_none_home, given_rw_alone, beside_given_rw_alone, recalled_home, recalled_load, recalled_ro, recalled_rw, held_for_ro, held_for_rw, beside_recall, took_ack, beside_ack, all_home, gives_asker, beside_gives_asker, put_is_owners, took_put_home, beside_put_home, put_ro_is_owners, shares_load, beside_load, shares_ro, asker_ro, beside_ro, took_put_rw, asker_put_rw, beside_put_rw, moved, home_stores, given_words, recall_words, recall_ro_words, asker_words, put_words, put_ro_words, owner_words_same}
+use Rattle.coherence_frame.proofs.Counts.{no_faults}
+use Rattle.coherence_frame.proofs.Turning.{Asked, OwnSame, current_same}
 
 module _ (n h : ℕ) (cur : List ℕ) (home home2 : Here) (spots spots2 : ℕ → Spot) (a : AtBlock n h cur home spots) where
-  -- a cache's own turn: all its row does is at its spot, and what it owes stays
-  pub cache_turn : (cur2 : List ℕ) (i : ℕ) → i < n → i ≢ h → ((j : ℕ) → j ≢ i → spots2 j ≡ spots j) → AtCache n h home i (spots2 i) × (owes (spots2 i) ≡ owes (spots i)) →
-      current_in home.state home.words (spots2 home.owner) ≡ cur2 → AtBlock n h cur2 home spots2
-  cache_turn cur2 i l d o c tie = record {
-    caches = λ j lj dj. elim (cases_eq j i) [ inl e ↦ rw e c.0 | inr e ↦ rw (o j e) (a.caches j lj dj) ];
-    at_home = rw (o h (λ e. d (sym e))) a.at_home;
-    acks = λ p. a.acks p ∙ sum_below_same n _ _ (λ j lj. elim (cases_eq j i) [ inl e ↦ rw e (sym c.1) | inr e ↦ rw (o j e) refl ]);
-    tie = tie;
-  }
-
   -- where the owner is the home itself, the words are the home's
   home_words : home.owner ≡ h → current_in home.state home.words (spots2 home.owner) ≡ cur
   home_words o = go home.state refl a.at_home.infos a.tie

@@ -3,21 +3,11 @@ use Rattle.std.proofs.Common.{◌≡◌, ◌≢◌, ℕ, ◌+◌, ◌≤◌, Boo
 use Rattle.std.proofs.lemmas.Bool.Decides.{nat_tests}
 use Rattle.block_spots.specs.Cases.{State, HomeRw, HomeRo, HomeExcl, HomeAcks, HomePut, Rest, NoRest, OfHome, OfLoad, OfRo, OfRw, Here, nobody, with_node}
 use Rattle.block_spots.specs.Notes.{Note, is_data_ro, is_data_rw, NInv, NAck, NRecall, NRecallRo, NDataRo, NDataRw, NPut, NPutRo, Spot, gets_ro, gets_rw, held_ro, held_rw, owes}
-use Rattle.stache_d_inv.specs.Coherent.{Answers, Apart, AtCache, HasAnswered, HasWords, IsAway, IsCacheState, IsGet, IsSharer, OneRequest, Owns, Recalled, RestFits, Stands, owner_words, tag_of}
+use Rattle.stache_d_inv.specs.Coherent.{Answers, Apart, AtCache, HasAnswered, HasWords, IsAway, IsCacheState, IsSharer, OneRequest, Owns, Recalled, RestFits, Stands, owner_words, tag_of}
 use Rattle.tw_base.specs.Lists.{Each, how_many}
 use Rattle.tw_base.specs.declared.value.Tag.TheVariants.{Invalid, ReadOnly, ReadWrite}
-use Rattle.stache_d_inv.proofs.Counts.{how_many-append}
-
--- t is s with this many requests fewer, whether they were on the way or deferred; channel 1 is left open
-pub record Loses (s t : Spot) (ro rw : ℕ) : Type 0 where
-  pub state : t.state ≡ s.state
-  pub tag : t.tag ≡ s.tag
-  pub rest : t.rest ≡ s.rest
-  pub words : t.words ≡ s.words
-  pub asks : Each IsGet t.ask
-  pub keeps : Each IsGet t.kept
-  pub ro_less : gets_ro s ≡ gets_ro t + ro
-  pub rw_less : gets_rw s ≡ gets_rw t + rw
+use Rattle.coherence_frame.proofs.Counts.{how_many-append}
+use Rattle.coherence_frame.proofs.Turning.{Loses}
 
 abbrev pub IsOfRw : Rest → Type 0
 IsOfRw (OfRw a) = Unit {0}
@@ -243,9 +233,11 @@ module _ (n h : ℕ) (home home2 : Here) (j : ℕ) (s t : Spot) (a : AtCache n h
         keeps = l.keeps;
         one = along (λ st x y gets down up. OneRequest st x (how_many is_data_ro down) y (how_many is_data_rw down)) s t (gets_ro s + held_ro home.rest j) (gets_rw s + held_rw home.rest j) (gets_ro t + held_ro home.rest j) (gets_rw t + held_rw home.rest j) ro wr l.state same_rw d u a.one;
         stands = stands_along home.state home j s t (gets_ro s + held_ro home.rest j) (gets_rw s + held_rw home.rest j) (gets_ro t + held_ro home.rest j) (gets_rw t + held_rw home.rest j) ro wr l.state same_rw d u a.stands;
-        copies = λ m e. l.words ∙ a.copies m (sym l.state ∙ e);
-        comes = λ m. subst (λ z. Each (HasWords home.words) z) (sym d) (a.comes m);
-        answers = λ m e. subst (λ z. Each (HasAnswered z) t.up) (sym l.words) (subst (λ z. Each (HasAnswered s.words) z) (sym u) (a.answers m (sym l.state ∙ e)));
+        copies = record {
+          copies = λ m e. l.words ∙ a.copies.copies m (sym l.state ∙ e);
+          comes = λ m. subst (λ z. Each (HasWords home.words) z) (sym d) (a.copies.comes m);
+          answers = λ m e. subst (λ z. Each (HasAnswered z) t.up) (sym l.words) (subst (λ z. Each (HasAnswered s.words) z) (sym u) (a.copies.answers m (sym l.state ∙ e)));
+        };
       })
 
   -- a store at the home

@@ -1,80 +1,13 @@
--- What each row of the table costs: the message pays for what the handler leaves behind.
-use Rattle.std.proofs.Common.{◌≡◌, ◌≢◌, ℕ, zero, suc, ◌+◌, ◌-◌, ◌*◌, ◌<◌, ◌≤◌, Bool, true, false, List, [], ◌∷◌, ◌++◌, length, Some, arith, refl, sym, ap, ◌∙◌, inl, inr, ◌⊎◌, cond}
-use Rattle.std.proofs.lemmas.Bool.{cases_eq, cases_lt}
+-- What each row of the table costs.
+use Rattle.std.proofs.Common.{◌≡◌, ◌≢◌, ℕ, ◌+◌, ◌<◌, ◌≤◌, Bool, true, false, Some, arith, refl, inl, inr, ◌⊎◌}
+use Rattle.std.proofs.lemmas.Bool.{cases_lt}
 use Rattle.std.proofs.lemmas.Bool.Decides.{nat_tests}
-use Rattle.std.proofs.lemmas.List.{length-append}
-use Rattle.tw_base.specs.Lists.{one_if}
-use Rattle.block_spots.specs.Cases.{Kind, RdFault, WrFault, GetRo, GetRw, Put, PutRo, Inv, Ack, State, HomeRw, HomeRo, HomeExcl, HomeAcks, HomePut, Rest, OfHome, OfLoad, OfRo, OfRw, Here, Message, Effect, members, without_node}
-use Rattle.block_spots.specs.Notes.{Note, NInv, Spot, note}
-use Rattle.stache_table.specs.Handling.{inv_all, plain}
+use Rattle.block_spots.specs.Cases.{Kind, RdFault, WrFault, GetRo, GetRw, Put, PutRo, Ack, State, HomeRw, HomeRo, HomeExcl, HomeAcks, HomePut, Rest, OfHome, OfLoad, OfRo, OfRw, Here, Message, Effect, members, without_node}
+use Rattle.block_spots.specs.Notes.{Spot}
 use Rattle.stache_d_table.specs.Handling.{handle_by}
-use Rattle.stache_d_inv.specs.Coherent.{AtHome, IsCacheState}
-use Rattle.stache_d_inv.specs.Potential.{weigh, price, rest_weight}
-use Rattle.stache_d_inv.proofs.Totals.{outgoing, kept_weight, sum_below_add, sum_below_le, sum_below_ones, if_at, if_at_is, if_at_other, sum_if_at}
-use Rattle.stache_d_inv.proofs.Stales.{stale_after}
-
-outgoing-append : (f : Note → ℕ) (xs ys : List Message) → outgoing f (xs ++ ys) ≡ outgoing f xs + outgoing f ys
-outgoing-append f [] ys = omega arith
-outgoing-append f (x ∷ xs) ys = omega (arith, outgoing-append f xs ys)
-
-members_more : (n : ℕ) (s : ℕ → Bool) → members (suc n) s ≡ members n s + one_if (s n)
-unfolding members
-members_more n s = refl
-
-members_zero : (s : ℕ → Bool) → members zero s ≡ 0
-unfolding members
-members_zero s = refl
-
--- INV to each member: so many messages, of this weight and price
-pub inv_count : (n : ℕ) (s : ℕ → Bool) (b me : ℕ) → length (inv_all n s b me) ≡ members n s
-inv_count zero s b me = sym (members_zero s)
-inv_count (suc n) s b me = omega (arith, length-append (inv_all n s b me) (cond (s n) (plain Inv b me n ∷ []) []), inv_count n s b me, members_more n s, last (s n))
-  where
-    last : (t : Bool) → length (cond t (plain Inv b me n ∷ []) []) ≡ one_if t
-    last true = refl
-    last false = refl
-
-pub inv_price : (f : Note → ℕ) → f NInv ≡ 1 → (n : ℕ) (s : ℕ → Bool) (b me : ℕ) → outgoing f (inv_all n s b me) ≡ members n s
-inv_price f v zero s b me = sym (members_zero s)
-inv_price f v (suc n) s b me = omega (arith, outgoing-append f (inv_all n s b me) (cond (s n) (plain Inv b me n ∷ []) []), inv_price f v n s b me, members_more n s, last (s n))
-  where
-    last : (t : Bool) → outgoing f (cond t (plain Inv b me n ∷ []) []) ≡ one_if t
-    last true = omega (arith, v)
-    last false = refl
-
-pub inv_weight : (f : Note → ℕ) → f NInv ≡ 2 → (n : ℕ) (s : ℕ → Bool) (b me : ℕ) → outgoing f (inv_all n s b me) ≡ members n s + members n s
-inv_weight f v zero s b me = omega (arith, members_zero s)
-inv_weight f v (suc n) s b me = omega (arith, outgoing-append f (inv_all n s b me) (cond (s n) (plain Inv b me n ∷ []) []), inv_weight f v n s b me, members_more n s, last (s n))
-  where
-    last : (t : Bool) → outgoing f (cond t (plain Inv b me n ∷ []) []) ≡ one_if t + one_if t
-    last true = omega (arith, v)
-    last false = refl
-
--- members among n nodes that leave out one of them
-pub members_but : (n h : ℕ) (s : ℕ → Bool) → h < n → s h ≡ false → members n s + 1 ≤ n
-unfolding members
-members_but n h s l e = omega (
-  arith,
-  sum_below_add n (λ j. one_if (s j) + if_at h 1 j) (λ j. one_if (s j)) (if_at h 1) (λ j k. refl),
-  sum_if_at n h 1 l,
-  sum_below_le n (λ j. one_if (s j) + if_at h 1 j) (λ j. 1) one,
-  sum_below_ones n,
-)
-  where
-    one_less : (t : Bool) → one_if t ≤ 1
-    one_less true = omega arith
-    one_less false = omega arith
-
-    one : (j : ℕ) → j < n → one_if (s j) + if_at h 1 j ≤ 1
-    one j k = elim (cases_eq h j) [
-      | inl q ↦ omega (arith, ap one_if (ap s (sym q) ∙ e), if_at_is h 1 j q)
-      | inr d ↦ omega (arith, one_less (s j), if_at_other h 1 j d)
-    ]
-
--- the message pays: for a handler event, for the messages sent, for the rest; v are the stale ones before
-pub record Paid (n : ℕ) (home : Here) (m : Message) (e : Effect) (v : ℕ) : Type 0 where
-  pub handlers : 1 + outgoing (weigh n) e.sends + kept_weight e.kept (weigh n (note m)) + rest_weight n e.here.rest + v ≤ weigh n (note m) + rest_weight n home.rest + stale_after e.freed e.kept v
-  pub sends : length e.sends + outgoing (price n) e.sends + kept_weight e.kept (price n (note m)) + rest_weight 1 e.here.rest ≤ price n (note m) + rest_weight 1 home.rest
+use Rattle.stache_d_inv.specs.Coherent.{AtHome}
+use Rattle.stache_d_inv.specs.Potential.{weigh, price}
+use Rattle.coherence_frame.proofs.Paying.{Paid, inv_count, inv_price, inv_weight, members_but}
 
 module _ (n h : ℕ) (home : Here) (s : Spot) (m : Message) (e : Effect) (v : ℕ) (hn : h < n) (a : AtHome n h home s) (does : handle_by home.state n h h home m ≡ Some e) (bound : v + 1 ≤ n) where
   sharers_but : home.state ≡ HomeRo → members n home.sharers + 1 ≤ n
@@ -158,13 +91,3 @@ module _ (n h : ℕ) (home : Here) (s : Spot) (m : Message) (e : Effect) (v : �
       go HomeAcks p = paid_acks p
       go HomePut p = paid_put p
       go x p = absurd (let i = a.infos in grind arith)
-
--- at a cache, a message that comes pays
-pub paid_at_cache : (n home i : ℕ) (here : Here) (m : Message) (e : Effect) → IsCacheState here.state → m.kind ≢ RdFault → m.kind ≢ WrFault → handle_by here.state n home i here m ≡ Some e →
-    (1 + outgoing (weigh n) e.sends ≤ weigh n (note m)) × (length e.sends + outgoing (price n) e.sends ≤ price n (note m))
-paid_at_cache n home i here m e s d1 d2 does = (grind arith, grind arith)
-
--- and a fault leaves one request
-pub fault_at_cache : (n home i : ℕ) (here : Here) (m : Message) (e : Effect) → 1 ≤ n → IsCacheState here.state → (m.kind ≡ RdFault) ⊎ (m.kind ≡ WrFault) → handle_by here.state n home i here m ≡ Some e →
-    (outgoing (weigh n) e.sends ≤ 3 * n - 1) × (length e.sends + outgoing (price n) e.sends ≤ 2 * n)
-fault_at_cache n home i here m e l s k does = (grind arith, grind arith)

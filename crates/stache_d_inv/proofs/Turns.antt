@@ -1,67 +1,29 @@
 -- The turn of a home: the rows, by the home's state and the message.
 use Rattle.std.proofs.Common.{◌≡◌, ◌≢◌, ℕ, ◌+◌, ◌<◌, ◌≤◌, Bool, true, false, List, [], ◌∷◌, ◌++◌, Some, arith, refl, sym, ap, ◌∙◌, inl, inr, ◌⊎◌}
 use Rattle.std.proofs.lemmas.Bool.{cases_lt}
-use Rattle.std.proofs.lemmas.List.{append-nil}
 use Rattle.std.proofs.lemmas.Bool.Decides.{nat_tests}
-use Rattle.block_spots.specs.Cases.{GetRo, GetRw, DataRo, DataRw, Put, Ack, Recall, RecallRo, PutRo, State, HomeRw, HomeRo, HomeExcl, HomeAcks, HomePut, NoRest, OfRo, OfRw, Message, Here, Kept, No, Stale, Effect, nobody, with_node, without_node, members}
-use Rattle.block_spots.specs.Notes.{Note, Spot, note, is_get_ro, is_get_rw, gets_ro, gets_rw}
+use Rattle.block_spots.specs.Cases.{GetRo, GetRw, DataRo, DataRw, Put, Ack, Recall, RecallRo, PutRo, State, HomeRw, HomeRo, HomeExcl, HomeAcks, HomePut, NoRest, OfRo, OfRw, Message, Here, No, Stale, Effect, nobody, with_node, without_node, members}
+use Rattle.block_spots.specs.Notes.{Spot, note, is_get_ro, is_get_rw, gets_ro, gets_rw}
 use Rattle.stache_d_inv.specs.Coherent.{AtBlock}
 use Rattle.stache_table.specs.Handling.{carrying, plain, inv_all}
 use Rattle.stache_d_table.specs.Handling.{handle_by}
 use Rattle.tw_base.specs.declared.message.Chan.TheVariants.{One}
 use Rattle.tw_base.specs.declared.value.Tag.TheVariants.{Invalid, ReadOnly}
-use Rattle.stache_d_inv.proofs.Views.{sent, sent_nil, sent_one, sent_one_past, sent_inv_all, inv_if}
-use Rattle.stache_d_inv.proofs.Homes.{Loses, owner_asks_nothing}
+use Rattle.stache_d_inv.proofs.Homes.{owner_asks_nothing}
 use Rattle.block_spots.proofs.Sums.{members_none}
-use Rattle.stache_d_inv.proofs.Blocks.{OwnSame, Asked, row_0, row_1, row_4, row_5, row_6, row_9, row_10, row_defer}
-
--- what is kept of a message, as a count
-abbrev pub taken : Kept → ℕ → ℕ
-taken No k = k
-taken Stale k = 0
-
--- what a home's turn at a request of cache i does to the spots
-pub record RequestTurn (h i : ℕ) (m : Message) (e : Effect) (spots spots2 : ℕ → Spot) : Type 0 where
-  pub from : m.from ≡ i
-  pub own : OwnSame (spots h) (spots2 h)
-  pub others : (j : ℕ) → j ≢ h → j ≢ i → spots2 j ≡ record (spots j) { down = (spots j).down ++ sent m.block e.sends h j One }
-  pub loses : Loses (spots i) (spots2 i) (taken e.kept (is_get_ro (note m))) (taken e.kept (is_get_rw (note m)))
-  pub down : (spots2 i).down ≡ (spots i).down ++ sent m.block e.sends h i One
-  pub up : (spots2 i).up ≡ (spots i).up
-
-pub stays : (s t : Spot) (z : List Note) → t ≡ record s { down = s.down ++ z } → z ≡ [] → t ≡ s
-stays s t z e x = e ∙ rw x (ap (λ y. record s { down = y }) (append-nil s.down))
+use Rattle.stache_d_inv.proofs.Blocks.{row_0, row_1, row_4, row_5, row_6, row_9, row_10, row_defer}
+use Rattle.coherence_frame.proofs.Views.{sent, sent_nil, sent_one, sent_one_past, sent_inv_all, inv_if}
+use Rattle.coherence_frame.proofs.Turning.{RequestTurn, stays, taken, one_to, none_to, loses, asked_one, asked_none}
 
 module _ (n h i : ℕ) (cur : List ℕ) (home : Here) (m : Message) (e : Effect) (spots spots2 : ℕ → Spot) (a : AtBlock n h cur home spots) (l : i < n) (d : i ≢ h) (does : handle_by home.state n h h home m ≡ Some e) (t : RequestTurn h i m e spots spots2) where
-  -- the answer goes to the asker alone
-  one_to : (x : Message) → e.sends ≡ x ∷ [] → x.to ≡ i → (j : ℕ) → j ≢ h → j ≢ i → spots2 j ≡ spots j
-  one_to x p r j u v = stays (spots j) (spots2 j) _ (t.others j u v) (ap (λ z. sent m.block z h j One) p ∙ sent_one_past m.block h j One x (λ q. v (sym q ∙ r)))
-
-  none_to : e.sends ≡ [] → (j : ℕ) → j ≢ h → j ≢ i → spots2 j ≡ spots j
-  none_to p j u v = stays (spots j) (spots2 j) _ (t.others j u v) (ap (λ z. sent m.block z h j One) p ∙ sent_nil m.block h j One)
-
-  loses : (ro wr : ℕ) → taken e.kept (is_get_ro (note m)) ≡ ro → taken e.kept (is_get_rw (note m)) ≡ wr → Loses (spots i) (spots2 i) ro wr
-  loses ro wr p q =
-      let f : Loses (spots i) (spots2 i) (taken e.kept (is_get_ro (note m))) (taken e.kept (is_get_rw (note m))) = t.loses in
-      rw q at (rw p at f)
-
-  asked_one : (ro wr : ℕ) (x : Message) → taken e.kept (is_get_ro (note m)) ≡ ro → taken e.kept (is_get_rw (note m)) ≡ wr → e.sends ≡ x ∷ [] →
-      x.block ≡ m.block → x.from ≡ h → x.to ≡ i → x.chan ≡ One → Asked (spots i) (spots2 i) ro wr (note x ∷ [])
-  asked_one ro wr x p q r xb xf xt xc =
-      record { loses = loses ro wr p q; down = t.down ∙ ap (λ z. (spots i).down ++ z) (ap (λ z. sent m.block z h i One) r ∙ sent_one m.block h i One x xb xf xt xc); up = t.up }
-
-  asked_none : (ro wr : ℕ) → taken e.kept (is_get_ro (note m)) ≡ ro → taken e.kept (is_get_rw (note m)) ≡ wr → sent m.block e.sends h i One ≡ [] →
-      Asked (spots i) (spots2 i) ro wr []
-  asked_none ro wr p q r = record { loses = loses ro wr p q; down = t.down ∙ ap (λ z. (spots i).down ++ z) r; up = t.up }
-
   is_rw_ro : home.state ≡ HomeRw → m.kind ≡ GetRo → e ≡ record { here = record home { state = HomeRo; sharers = with_node nobody i; tag = ReadOnly }; sends = carrying DataRo m.block h i home.words ∷ []; kept = No; freed = true; woke = false }
   is_rw_ro p k = let f : m.from ≡ i = t.from in grind arith
 
   rw_ro : home.state ≡ HomeRw → m.kind ≡ GetRo → AtBlock n h cur e.here spots2
   rw_ro p k =
       let q = is_rw_ro p k in
-      row_0 n h cur home e.here spots spots2 a i l d t.own (one_to _ (ap (λ z. z.sends) q) refl) p (ap (λ z. z.here) q)
-      (asked_one 1 0 (carrying DataRo m.block h i home.words) (grind arith) (grind arith) (ap (λ z. z.sends) q) refl refl refl refl)
+      row_0 n h cur home e.here spots spots2 a i l d t.own (one_to h i m e spots spots2 t _ (ap (λ z. z.sends) q) refl) p (ap (λ z. z.here) q)
+      (asked_one h i m e spots spots2 t 1 0 (carrying DataRo m.block h i home.words) (grind arith) (grind arith) (ap (λ z. z.sends) q) refl refl refl refl)
 
   is_rw_rw : home.state ≡ HomeRw → m.kind ≡ GetRw → e ≡ record { here = record home { state = HomeExcl; owner = i; tag = Invalid }; sends = carrying DataRw m.block h i home.words ∷ []; kept = No; freed = true; woke = false }
   is_rw_rw p k = let f : m.from ≡ i = t.from in grind arith
@@ -69,8 +31,8 @@ module _ (n h i : ℕ) (cur : List ℕ) (home : Here) (m : Message) (e : Effect)
   rw_rw : home.state ≡ HomeRw → m.kind ≡ GetRw → AtBlock n h cur e.here spots2
   rw_rw p k =
       let q = is_rw_rw p k in
-      row_1 n h cur home e.here spots spots2 a i l d t.own (one_to _ (ap (λ z. z.sends) q) refl) p (ap (λ z. z.here) q)
-      (asked_one 0 1 (carrying DataRw m.block h i home.words) (grind arith) (grind arith) (ap (λ z. z.sends) q) refl refl refl refl)
+      row_1 n h cur home e.here spots spots2 a i l d t.own (one_to h i m e spots spots2 t _ (ap (λ z. z.sends) q) refl) p (ap (λ z. z.here) q)
+      (asked_one h i m e spots spots2 t 0 1 (carrying DataRw m.block h i home.words) (grind arith) (grind arith) (ap (λ z. z.sends) q) refl refl refl refl)
 
   is_ro_ro : home.state ≡ HomeRo → m.kind ≡ GetRo → e ≡ record { here = record home { sharers = with_node home.sharers i }; sends = carrying DataRo m.block h i home.words ∷ []; kept = No; freed = false; woke = false }
   is_ro_ro p k = let f : m.from ≡ i = t.from in grind arith
@@ -78,8 +40,8 @@ module _ (n h i : ℕ) (cur : List ℕ) (home : Here) (m : Message) (e : Effect)
   ro_ro : home.state ≡ HomeRo → m.kind ≡ GetRo → AtBlock n h cur e.here spots2
   ro_ro p k =
       let q = is_ro_ro p k in
-      row_4 n h cur home e.here spots spots2 a i l d t.own (one_to _ (ap (λ z. z.sends) q) refl) p (ap (λ z. z.here) q)
-      (asked_one 1 0 (carrying DataRo m.block h i home.words) (grind arith) (grind arith) (ap (λ z. z.sends) q) refl refl refl refl)
+      row_4 n h cur home e.here spots spots2 a i l d t.own (one_to h i m e spots spots2 t _ (ap (λ z. z.sends) q) refl) p (ap (λ z. z.here) q)
+      (asked_one h i m e spots spots2 t 1 0 (carrying DataRo m.block h i home.words) (grind arith) (grind arith) (ap (λ z. z.sends) q) refl refl refl refl)
 
   is_ro_rw : home.state ≡ HomeRo → m.kind ≡ GetRw → 1 ≤ members n (without_node home.sharers i) →
       e ≡ record { here = record home { state = HomeAcks; rest = OfRw i; sharers = nobody; acks = members n (without_node home.sharers i) }; sends = inv_all n (without_node home.sharers i) m.block h; kept = No; freed = false; woke = false }
@@ -90,7 +52,7 @@ module _ (n h i : ℕ) (cur : List ℕ) (home : Here) (m : Message) (e : Effect)
       row_5 n h cur home e.here spots spots2 a i l d t.own
       (λ j lj dj di x. t.others j dj di ∙ ap (λ z. record (spots j) { down = (spots j).down ++ z }) (to j true lj (grind (arith, nat_tests))))
       (λ j lj dj di x. stays (spots j) (spots2 j) _ (t.others j dj di) (to j false lj (grind (arith, nat_tests))))
-      p o (ap (λ z. z.here) q) (asked_none 0 1 (grind arith) (grind arith) (to i false l (grind (arith, nat_tests))))
+      p o (ap (λ z. z.here) q) (asked_none h i m e spots spots2 t 0 1 (grind arith) (grind arith) (to i false l (grind (arith, nat_tests))))
     where
       q : e ≡ record { here = record home { state = HomeAcks; rest = OfRw i; sharers = nobody; acks = members n (without_node home.sharers i) }; sends = inv_all n (without_node home.sharers i) m.block h; kept = No; freed = false; woke = false }
       q = is_ro_rw p k o
@@ -105,8 +67,8 @@ module _ (n h i : ℕ) (cur : List ℕ) (home : Here) (m : Message) (e : Effect)
   ro_rw_alone : home.state ≡ HomeRo → m.kind ≡ GetRw → members n (without_node home.sharers i) < 1 → AtBlock n h cur e.here spots2
   ro_rw_alone p k o =
       let q = is_ro_rw_alone p k o in
-      row_6 n h cur home e.here spots spots2 a i l d t.own (one_to _ (ap (λ z. z.sends) q) refl) (without_node home.sharers i) none p o (ap (λ z. z.here) q)
-      (asked_one 0 1 (carrying DataRw m.block h i home.words) (grind arith) (grind arith) (ap (λ z. z.sends) q) refl refl refl refl)
+      row_6 n h cur home e.here spots spots2 a i l d t.own (one_to h i m e spots spots2 t _ (ap (λ z. z.sends) q) refl) (without_node home.sharers i) none p o (ap (λ z. z.here) q)
+      (asked_one h i m e spots spots2 t 0 1 (carrying DataRw m.block h i home.words) (grind arith) (grind arith) (ap (λ z. z.sends) q) refl refl refl refl)
     where
       infos : (k : ℕ) → home.sharers k ≡ true → (k < n) × (k ≢ h)
       infos = grind arith
@@ -133,13 +95,13 @@ module _ (n h i : ℕ) (cur : List ℕ) (home : Here) (m : Message) (e : Effect)
       row_9 n h cur home e.here spots spots2 a i l d t.own io
       (t.others home.owner oh (λ y. io (sym y)) ∙ ap (λ z. record (spots home.owner) { down = (spots home.owner).down ++ z }) (ap (λ z. sent m.block z.sends h home.owner One) q ∙ sent_one m.block h home.owner One _ refl refl refl refl))
       (λ j jh ji jo. stays (spots j) (spots2 j) _ (t.others j jh ji) (to_other j jo))
-      p (ap (λ z. z.here) q) (asked_none 1 0 (grind arith) (grind arith) (to_other i io))
+      p (ap (λ z. z.here) q) (asked_none h i m e spots spots2 t 1 0 (grind arith) (grind arith) (to_other i io))
     where
       q : e ≡ record { here = record home { state = HomePut; rest = OfRo i }; sends = plain RecallRo m.block h home.owner ∷ []; kept = No; freed = false; woke = false }
       q = is_excl_ro p k
 
       asks : gets_ro (spots i) ≡ gets_ro (spots2 i) + 1
-      asks = (loses 1 0 (grind arith) (grind arith)).ro_less
+      asks = (loses h i m e spots spots2 t 1 0 (grind arith) (grind arith)).ro_less
 
       io : i ≢ home.owner
       io = asker_no_owner p (omega (arith, asks))
@@ -155,13 +117,13 @@ module _ (n h i : ℕ) (cur : List ℕ) (home : Here) (m : Message) (e : Effect)
       row_10 n h cur home e.here spots spots2 a i l d t.own io
       (t.others home.owner oh (λ y. io (sym y)) ∙ ap (λ z. record (spots home.owner) { down = (spots home.owner).down ++ z }) (ap (λ z. sent m.block z.sends h home.owner One) q ∙ sent_one m.block h home.owner One _ refl refl refl refl))
       (λ j jh ji jo. stays (spots j) (spots2 j) _ (t.others j jh ji) (to_other j jo))
-      p (ap (λ z. z.here) q) (asked_none 0 1 (grind arith) (grind arith) (to_other i io))
+      p (ap (λ z. z.here) q) (asked_none h i m e spots spots2 t 0 1 (grind arith) (grind arith) (to_other i io))
     where
       q : e ≡ record { here = record home { state = HomePut; rest = OfRw i }; sends = plain Recall m.block h home.owner ∷ []; kept = No; freed = false; woke = false }
       q = is_excl_rw p k
 
       asks : gets_rw (spots i) ≡ gets_rw (spots2 i) + 1
-      asks = (loses 0 1 (grind arith) (grind arith)).rw_less
+      asks = (loses h i m e spots spots2 t 0 1 (grind arith) (grind arith)).rw_less
 
       io : i ≢ home.owner
       io = asker_no_owner p (omega (arith, asks))
@@ -180,8 +142,8 @@ module _ (n h i : ℕ) (cur : List ℕ) (home : Here) (m : Message) (e : Effect)
 
   deferred : e ≡ record { here = home; sends = []; kept = Stale; freed = false; woke = false } → AtBlock n h cur e.here spots2
   deferred q =
-      row_defer n h cur home e.here spots spots2 a i l d t.own (none_to (ap (λ z. z.sends) q)) (ap (λ z. z.here) q)
-      (asked_none 0 0 (ap (λ z. taken z.kept (is_get_ro (note m))) q) (ap (λ z. taken z.kept (is_get_rw (note m))) q) (ap (λ z. sent m.block z.sends h i One) q ∙ sent_nil m.block h i One))
+      row_defer n h cur home e.here spots spots2 a i l d t.own (none_to h i m e spots spots2 t (ap (λ z. z.sends) q)) (ap (λ z. z.here) q)
+      (asked_none h i m e spots spots2 t 0 0 (ap (λ z. taken z.kept (is_get_ro (note m))) q) (ap (λ z. taken z.kept (is_get_rw (note m))) q) (ap (λ z. sent m.block z.sends h i One) q ∙ sent_nil m.block h i One))
 
   -- the whole turn
   pub request_turn : (m.kind ≡ GetRo) ⊎ (m.kind ≡ GetRw) → AtBlock n h cur e.here spots2

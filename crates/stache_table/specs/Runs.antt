@@ -23,7 +23,7 @@ use Rattle.teapot_meaning.specs.declared.state.Running.{Running}
 use Rattle.teapot_meaning.specs.declared.state.StateVal.{StateVal, roll-StateVal}
 use Rattle.teapot_meaning.specs.Steps.{freed_kept, node_of, out_to, payload_of, place_of, set_of}
 use Rattle.teapot_meaning.specs.Values.{bound_in, count_of, info_at, one_of, two_of, variable_or}
-use Rattle.stache_tree.specs.Code.{Code, Term, Done, Assign, When, Send, SendAll, SetTag, SetState, Suspend, Resume, Error, Install, Enqueue, WakeUp, Number, Empty, Src, Home, Var, One, Count, Two, stmts_of}
+use Rattle.stache_tree.specs.Code.{Code, Term, Done, Assign, When, Last, Send, SendAll, SetTag, SetState, Suspend, Resume, Error, Install, Enqueue, WakeUp, Number, Empty, Src, Home, Var, One, Count, Two, stmts_of}
 
 -- the rest, its variables, and the number of the state that was left
 pub record Later : Type 0 where
@@ -96,6 +96,16 @@ put r name value (Some i) info = record r { vars = slice_set r.vars i (record { 
 put r name value None (Some i) = record r { infos = slice_set r.infos i value }
 put r name value None None = r
 
+-- the last of these numbers
+abbrev pub last_of : ℕ → List ℕ → ℕ
+last_of n [] = n
+last_of n (m ∷ ms) = last_of m ms
+
+-- the variable has been each of these nodes in turn
+abbrev pub put_last : Run → Name → List ℕ → Option ℕ → Option ℕ → Run
+put_last r name [] i j = r
+put_last r name (n ∷ ns) i j = put r name (v.Node (last_of n ns)) i j
+
 abbrev pub out : Protocol → Run → ℕ → ℕ → Out
 out p r to n = out_to n [] (payload_of (slice_get p.messages n) r.words) to
 
@@ -103,6 +113,7 @@ abbrev pub joined : Code → Code → Code
 joined Done d = d
 joined (Assign name e c) d = Assign name e (joined c d)
 joined (When e first c) d = When e first (joined c d)
+joined (Last name e c) d = Last name e (joined c d)
 joined (Send to name c) d = Send to name (joined c d)
 joined (SendAll to name c) d = SendAll to name (joined c d)
 joined (SetTag tag c) d = SetTag tag (joined c d)
@@ -132,11 +143,12 @@ abbrev pub resume : Run → Option Later → Turn
 resume r (Some k) = Going k.rest (record r { state = k.state; later = None; vars = k.vars; came = k.came; freed = true; kept = freed_kept r.kept })
 resume r None = Stopped r Fine
 
--- what the first statement leads to
+-- what the first statement leads to; an empty loop is one turn
 abbrev pub turn : Protocol → Code → Run → Turn
 turn p Done r = Stopped r Fine
 turn p (Assign name e c) r = Going c (put r name (val p r e) (place_of name r.vars) (info_number p name))
 turn p (When e first c) r = Going (picked (val p r e) first c) r
+turn p (Last name e c) r = Going c (put_last r name (nodes_in (set_of (val p r e))) (place_of name r.vars) (info_number p name))
 turn p (Send to name c) r =
     Going c (record r { sends = r.sends ++ out p r (node_of (val p r to)) (declared (message_number p name)) ∷ [] })
 turn p (SendAll to name c) r =
