@@ -2,3 +2,5 @@ pub mod Deciding
 pub mod Loops
 pub mod Saying
 pub mod Owing
+pub mod Together
+pub mod Breaking

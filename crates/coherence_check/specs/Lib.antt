@@ -1,3 +1,4 @@
+pub mod Under
 pub mod Nodes
 pub mod Said
 pub mod Waits

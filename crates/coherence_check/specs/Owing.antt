@@ -5,12 +5,13 @@ use Rattle.dsm_runs.specs.Setups.{Setup}
 use Rattle.dsm_runs.specs.Worlds.{World}
 use Rattle.block_spots.specs.Cases.{HomeAcks}
 use Rattle.block_spots.specs.Notes.{Note, is_ack, is_inv, owes}
-use Rattle.coherence_inv.specs.Parts.{home_seen, spots_seen}
+use Rattle.coherence_check.specs.Under.{home_under, spots_under}
+use Rattle.stache_check.specs.declared.directory.Directory.{Directory}
 
 -- an INV, or an ACK
 abbrev pub owing : Bool → Note → ℕ
 owing true = is_inv
 owing false = is_ack
 
-abbrev pub AcksFit : Setup → World → ℕ → Type 0
-AcksFit s g b = (home_seen s g b).state ≡ HomeAcks → (home_seen s g b).acks ≡ sum_below s.shape.nodes (λ j. owes (spots_seen s g b j))
+abbrev pub AcksFit : Directory → Setup → World → ℕ → Type 0
+AcksFit d s g b = (home_under d s g b).state ≡ HomeAcks → (home_under d s g b).acks ≡ sum_below s.shape.nodes (λ j. owes (spots_under d s g b j))

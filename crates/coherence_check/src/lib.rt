@@ -1,4 +1,5 @@
-//! Whether a state of the machine is coherent, and else the first part of the least block that fails.
+//! Whether a state of the machine is coherent under Stache or Stache_D, and else the first part of the least block that fails. What names no protocol stands
+//! once, over a `Directory`.
 #![tactic(auto)]
 
 mod decide;
@@ -12,4 +13,4 @@ mod waits;
 mod wire;
 
 pub use coherence_reads::Part;
-pub use decide::{Broken, coherent, holds};
+pub use decide::{Broken, coherent, coherent_d, holds, holds_d};

@@ -4,8 +4,8 @@ ghost use Rattle.tw_base.specs.declared.message.Chan.TheVariants.{Zero};
 ghost use Rattle.block_spots.specs.Notes.{kept_notes, notes};
 ghost use Rattle.block_spots.specs.Sketches.{Loads, Stores};
 ghost use Rattle.block_spots.specs.Views.{layout, seen_may, seen_message, seen_next};
-ghost use Rattle.coherence_inv.specs.Coherent.{AtNode};
 ghost use Rattle.coherence_inv.specs.Parts.{EachCache, IsPlaced, seen};
+ghost use Rattle.stache_d_inv.specs.Parts as parts_d;
 ghost use Rattle.dsm_model.specs.Globals.{setup_of, world_of};
 ghost use Rattle.dsm_model.specs.Views.{local_of};
 ghost use Rattle.dsm_runs.specs.declared.mode.Mode.TheVariants as mode;
@@ -13,18 +13,18 @@ ghost use Rattle.dsm_runs.specs.Setups.{asked, block_of, home_of};
 ghost use Rattle.coherence_reads.specs.Notes.{IsSummary};
 ghost use Rattle.coherence_reads.specs.Seeing.{which};
 ghost use Rattle.coherence_check.specs.Nodes.{HasNone, NodeAt, SendsNone};
+ghost use Rattle.coherence_check.specs.Under.{AtNodeUnder, IsPlacedUnder, seen_under};
 ghost use Rattle.coherence_check.specs.Waits.{IsNode};
 
 use crate::reading::{deferred, home, nodes, words};
-use crate::spot::home_at;
 use crate::waits::{Node, node_fits};
 use crate::wire::said;
 use coherence_reads::{
-    Part, are_none_from, held_home, is_literal, kept_of, left_fits, left_of, place_seen, rest_read,
-    sharers,
+    Part, are_none_from, is_literal, kept_of, left_fits, left_of, place_seen, rest_under, sharers,
 };
 use dsm_model::{Global, Local, Mode, Setup};
 use mini_asm::Next;
+use stache_check::Directory;
 use teapot_meaning::Here;
 use tw_base::{BlockId, Chan, NodeId};
 
@@ -35,20 +35,39 @@ fn has_not_failed(g: &Global, node: NodeId) -> bool
     g.local(node).failed.is_none()
 }
 
-/// Whether it is a block of the protocol with its continuation whole, which restores a state that it may.
-fn is_placed(here: &Here) -> bool
+/// Whether it is a block of Stache with its continuation whole, which restores a state that it may.
+fn is_placed_of_stache(here: &Here) -> bool
     ensures { Decides result (IsPlaced here.now) }
 {
     let _eight = sharers(here.infos.items()).has(here.me);
-    is_literal(here) && left_fits(place_seen(here.state.state), left_of(&here.state.cont))
+    is_literal(Directory::Stache, here)
+        && left_fits(place_seen(here.state.state), left_of(&here.state.cont))
 }
 
-fn is_placed_at(g: &Global, block: BlockId, node: NodeId) -> bool
+/// Whether it is a block of Stache_D with its continuation whole, which restores a state that it may.
+fn is_placed_of_d(here: &Here) -> bool
+    ensures { Decides result (parts_d.IsPlaced here.now) }
+{
+    let _eight = sharers(here.infos.items()).has(here.me);
+    is_literal(Directory::StacheD, here)
+        && left_fits(place_seen(here.state.state), left_of(&here.state.cont))
+}
+
+fn is_placed(directory: Directory, here: &Here) -> bool
+    ensures { Decides result (IsPlacedUnder directory here.now) }
+{
+    match directory {
+        Directory::Stache => is_placed_of_stache(here),
+        Directory::StacheD => is_placed_of_d(here),
+    }
+}
+
+fn is_placed_at(g: &Global, directory: Directory, block: BlockId, node: NodeId) -> bool
     requires node { node < (setup_of g.now).shape.nodes }
     requires block { block < (setup_of g.now).shape.blocks }
-    ensures { Decides result (IsPlaced (((world_of g.now).locals node).blocks block)) }
+    ensures { Decides result (IsPlacedUnder directory (((world_of g.now).locals node).blocks block)) }
 {
-    is_placed(g.block(node, block))
+    is_placed(directory, g.block(node, block))
 }
 
 /// Whether a wire has nothing of a block.
@@ -57,7 +76,7 @@ fn is_silent(g: &Global, block: BlockId, from: NodeId, to: NodeId, chan: Chan) -
     requires block { block < (setup_of g.now).shape.blocks }
     ensures { Decides result (notes block ((seen (setup_of g.now) (world_of g.now)).wires from to chan) ≡ []) }
 {
-    let own = home_at(g, block);
+    let own = g.block(home(g, block), block);
     said(g, from, to, chan, block, own.words).few.is_empty()
 }
 
@@ -196,10 +215,10 @@ fn stores(setup: &Setup, next: Next, block: BlockId) -> bool
     }
 }
 
-fn node_seen(g: &Global, block: BlockId, node: NodeId) -> Node
+fn node_seen(g: &Global, directory: Directory, block: BlockId, node: NodeId) -> Node
     requires node { node < (setup_of g.now).shape.nodes }
     requires block { block < (setup_of g.now).shape.blocks }
-    ensures { IsNode result (home_of (setup_of g.now) block) ((seen (setup_of g.now) (world_of g.now)).locals node) node block }
+    ensures { IsNode result (home_of (setup_of g.now) block) ((seen_under directory (setup_of g.now) (world_of g.now)).locals node) node block }
 {
     let here = g.block(node, block);
     let kept = kept_of(deferred(g, node), block, node, words(g), here.words);
@@ -214,41 +233,41 @@ fn node_seen(g: &Global, block: BlockId, node: NodeId) -> Node
         tag: here.tag,
         rd_fault: kept.rd_fault,
         wr_fault: kept.wr_fault,
-        held: held_home(rest_read(&here.state.cont)),
+        whose: rest_under(directory, &here.state.cont),
     }
 }
 
-fn waits_so(g: &Global, block: BlockId, node: NodeId) -> bool
+fn waits_so(g: &Global, directory: Directory, block: BlockId, node: NodeId) -> bool
     requires node { node < (setup_of g.now).shape.nodes }
     requires block { block < (setup_of g.now).shape.blocks }
-    ensures { Decides result (AtNode (layout (setup_of g.now)) ((seen (setup_of g.now) (world_of g.now)).locals node) node block) }
+    ensures { Decides result (AtNodeUnder directory (layout (setup_of g.now)) ((seen_under directory (setup_of g.now) (world_of g.now)).locals node) node block) }
 {
-    let x = node_seen(g, block, node);
-    node_fits(&x)
+    let x = node_seen(g, directory, block, node);
+    node_fits(directory, &x)
 }
 
-fn node_at(g: &Global, part: Part, block: BlockId, node: NodeId) -> bool
+fn node_at(g: &Global, directory: Directory, part: Part, block: BlockId, node: NodeId) -> bool
     requires node { node < (setup_of g.now).shape.nodes }
     requires block { block < (setup_of g.now).shape.blocks }
-    ensures { Decides result (NodeAt (which part) (setup_of g.now) (world_of g.now) block node) }
+    ensures { Decides result (NodeAt directory (which part) (setup_of g.now) (world_of g.now) block node) }
 {
     match part {
         Part::First => has_not_failed(g, node),
-        Part::Second => is_placed_at(g, block, node),
+        Part::Second => is_placed_at(g, directory, block, node),
         Part::Third => has_its_places(g, block, node),
-        Part::Fourth => waits_so(g, block, node),
+        Part::Fourth => waits_so(g, directory, block, node),
         _ => true,
     }
 }
 
 /// Whether each node is as the part asks.
-pub fn nodes_fit(g: &Global, part: Part, block: BlockId) -> bool
+pub fn nodes_fit(g: &Global, directory: Directory, part: Part, block: BlockId) -> bool
     requires { block < (setup_of g.now).shape.blocks }
-    ensures { Decides result ((i : ℕ) → i < (setup_of g.now).shape.nodes → NodeAt (which part) (setup_of g.now) (world_of g.now) block i) }
+    ensures { Decides result ((i : ℕ) → i < (setup_of g.now).shape.nodes → NodeAt directory (which part) (setup_of g.now) (world_of g.now) block i) }
 {
     for number in 0..nodes(g) {
         let node = NodeId::new(number).unwrap();
-        if !node_at(g, part, block, node) {
+        if !node_at(g, directory, part, block, node) {
             return false;
         }
     }

@@ -14,7 +14,7 @@ use crate::spot::home_at;
 use crate::wire::is_of;
 use coherence_reads::{Note, note_of};
 use dsm_model::Global;
-use stache_check::Place;
+use stache_check::{Directory, Place};
 use tw_base::{BlockId, Chan, Message, NodeId};
 
 /// 1 for an INV, or an ACK, 0 for another note.
@@ -75,11 +75,11 @@ fn owed(g: &Global, block: BlockId) -> u64
 }
 
 /// Whether a home that collects acknowledgements waits for as many as are owed.
-pub fn acks_fit(g: &Global, block: BlockId) -> bool
+pub fn acks_fit(g: &Global, directory: Directory, block: BlockId) -> bool
     requires { block < (setup_of g.now).shape.blocks }
-    ensures { Decides result (AcksFit (setup_of g.now) (world_of g.now) block) }
+    ensures { Decides result (AcksFit directory (setup_of g.now) (world_of g.now) block) }
 {
-    let own = home_at(g, block);
+    let own = home_at(g, directory, block);
     match own.place {
         Place::HomeAcks => u64::from(own.acks) == owed(g, block),
         _ => true,

@@ -2,11 +2,12 @@ ghost use Rattle.std.specs.Prelude.{◌≡◌, ◌≤◌, ◌<◌};
 ghost use Rattle.dsm_model.specs.Globals.{setup_of, world_of};
 ghost use Rattle.dsm_runs.specs.Setups.{home_of};
 ghost use Rattle.block_spots.specs.Views.{seen_here};
-ghost use Rattle.stache_table.specs.Blocks.{reads};
+ghost use Rattle.block_reads.specs.Tables.{reads_under};
 ghost use Rattle.coherence_reads.specs.Seeing.{here_in};
 
-use coherence_reads::{Home, acks, owner, place_seen, rest_read, sharers};
+use coherence_reads::{Home, acks, owner, place_seen, rest_under, sharers};
 use dsm_model::{Global, Waiting};
+use stache_check::Directory;
 use teapot_meaning::Here;
 use tw_base::{BlockId, NodeId};
 
@@ -49,13 +50,13 @@ pub fn deferred<'a>(g: &'a Global, node: NodeId) -> &'a [Waiting]
 }
 
 /// A block as its home has it.
-pub fn seen(here: &Here) -> Home
-    ensures { here_in result ≡ seen_here reads here.now }
+pub fn seen(directory: Directory, here: &Here) -> Home
+    ensures { here_in result ≡ seen_here (reads_under directory) here.now }
 {
     let infos = here.infos.items();
     Home {
         place: place_seen(here.state.state),
-        whose: rest_read(&here.state.cont),
+        whose: rest_under(directory, &here.state.cont),
         sharers: sharers(infos),
         owner: owner(infos),
         acks: acks(infos),

@@ -1,17 +1,20 @@
 ghost use Rattle.std.specs.Prelude.{ℕ, ◌≡◌, ◌≢◌, ◌≤◌, ◌+◌, ◌&&◌, ◌||◌, not, true, false};
 ghost use Rattle.std.specs.Bool.{Decides};
 ghost use Rattle.block_tags.specs.Copies.{permits};
-ghost use Rattle.block_spots.specs.Cases.{CacheWaitRo, CacheWaitRw, State};
+ghost use Rattle.block_spots.specs.Cases.{CacheWaitRo, CacheWaitRw};
 ghost use Rattle.block_spots.specs.Notes.{held_home};
 ghost use Rattle.block_spots.specs.Sketches.{Layout, Loads, Local, Stores};
-ghost use Rattle.coherence_inv.specs.Coherent.{AtNode, HeldFor, IsWaiting, allows_load, allows_store, own_rd, own_wr};
+ghost use Rattle.coherence_inv.specs.Coherent.{HeldFor, IsWaiting, allows_load, allows_store, own_rd, own_wr};
+ghost use Rattle.stache_d_inv.specs.Coherent as words_d;
 ghost use Rattle.dsm_runs.specs.declared.mode.Mode.TheVariants as mode;
 ghost use Rattle.coherence_reads.specs.Counts.{IsCount};
-ghost use Rattle.coherence_reads.specs.Whose.{state_in};
+ghost use Rattle.coherence_reads.specs.Directories.{HeldUnder};
+ghost use Rattle.block_reads.specs.Whose.{rest_in, state_in};
+ghost use Rattle.coherence_check.specs.Under.{AtNodeUnder};
 ghost use Rattle.coherence_check.specs.Waits.{IsNode};
 
-use coherence_reads::{Count, is_waiting};
-use stache_check::Place;
+use coherence_reads::{Count, Whose, held_home, is_waiting};
+use stache_check::{Directory, Place};
 use tw_base::Tag;
 
 /// What is read of a node about a block.
@@ -27,10 +30,11 @@ pub struct Node {
     pub stores: bool,
     pub place: Place,
     pub tag: Tag,
-    /// Its own faults that it deferred, and that of its continuation.
+    /// Its own faults that it deferred.
     pub rd_fault: Count,
     pub wr_fault: Count,
-    pub held: Count,
+    /// What its continuation serves.
+    pub whose: Whose,
 }
 
 pub fn both(first: bool, second: bool) -> bool
@@ -63,12 +67,31 @@ fn is_some(count: Count) -> bool
     !matches!(count, Count::Zero)
 }
 
-fn held_for(place: Place, loads: bool, stores: bool) -> bool
+fn held_for_of_stache(place: Place, loads: bool, stores: bool) -> bool
     ensures { (l : Local) (b : ℕ) → Decides loads (l.next ≡ Loads b) → Decides stores (l.next ≡ Stores b) → Decides result (HeldFor (state_in place) l.next b) }
 {
     match place {
         Place::HomePut => loads || stores,
         _ => stores,
+    }
+}
+
+fn held_for_of_d(whose: Whose, loads: bool, stores: bool) -> bool
+    ensures { (l : Local) (b : ℕ) → Decides loads (l.next ≡ Loads b) → Decides stores (l.next ≡ Stores b) → Decides result (words_d.HeldFor (rest_in whose) l.next b) }
+{
+    match whose {
+        Whose::OfLoad => loads,
+        _ => stores,
+    }
+}
+
+/// Whether the home's next instruction is that whose fault it serves.
+fn held_for(directory: Directory, x: &Node) -> bool
+    ensures { (l : Local) (b : ℕ) → Decides x.now.loads (l.next ≡ Loads b) → Decides x.now.stores (l.next ≡ Stores b) → Decides result (HeldUnder directory (state_in x.now.place) (rest_in x.now.whose) l.next b) }
+{
+    match directory {
+        Directory::Stache => held_for_of_stache(x.place, x.loads, x.stores),
+        Directory::StacheD => held_for_of_d(x.whose, x.loads, x.stores),
     }
 }
 
@@ -121,12 +144,12 @@ fn own_write(x: &Node) -> bool
     implies(x.own, waits(x, is_some(x.wr_fault), x.stores))
 }
 
-fn own_held(x: &Node) -> bool
-    ensures { (h i b : ℕ) (l : Local) → IsNode x.now h l i b → Decides result (i ≡ h → 1 ≤ held_home (l.blocks b).rest → (l.mode ≡ mode.Blocked b) × HeldFor (l.blocks b).state l.next b) }
+fn own_held(directory: Directory, x: &Node) -> bool
+    ensures { (h i b : ℕ) (l : Local) → IsNode x.now h l i b → Decides result (i ≡ h → 1 ≤ held_home (l.blocks b).rest → (l.mode ≡ mode.Blocked b) × HeldUnder directory (l.blocks b).state (l.blocks b).rest l.next b) }
 {
     implies(
         x.own,
-        waits(x, is_some(x.held), held_for(x.place, x.loads, x.stores)),
+        waits(x, is_some(held_home(x.whose)), held_for(directory, x)),
     )
 }
 
@@ -135,7 +158,13 @@ fn own_blocked(x: &Node) -> bool
 {
     implies(
         x.own,
-        implies(x.blocked, x.rd_fault.plus(x.wr_fault).plus(x.held).is_one()),
+        implies(
+            x.blocked,
+            x.rd_fault
+                .plus(x.wr_fault)
+                .plus(held_home(x.whose))
+                .is_one(),
+        ),
     )
 }
 
@@ -152,11 +181,11 @@ fn woken_stores(x: &Node) -> bool
 }
 
 /// Whether a node waits for the block only where it has asked for it, and completes its access when it is woken.
-pub fn node_fits(x: &Node) -> bool
-    ensures { (s : Layout) (i b : ℕ) (l : Local) → IsNode x.now (s.home b) l i b → Decides result (AtNode s l i b) }
+pub fn node_fits(directory: Directory, x: &Node) -> bool
+    ensures { (s : Layout) (i b : ℕ) (l : Local) → IsNode x.now (s.home b) l i b → Decides result (AtNodeUnder directory s l i b) }
 {
     let woken = both(woken_loads(x), woken_stores(x));
-    let held = both(own_held(x), both(own_blocked(x), woken));
+    let held = both(own_held(directory, x), both(own_blocked(x), woken));
     let own = both(own_read(x), both(own_write(x), held));
     both(waits_ro(x), both(waits_rw(x), both(blocked_waits(x), own)))
 }

@@ -1,6 +1,7 @@
 pub mod Away
 pub mod Deferring
-pub mod Layers
+pub mod Elsewhere
 pub mod Lists
 pub mod Members
 pub mod Sets
+pub mod Sorts

@@ -1,5 +1,5 @@
 pub mod Counts
 pub mod Deferring
+pub mod Directories
 pub mod Notes
 pub mod Seeing
-pub mod Whose

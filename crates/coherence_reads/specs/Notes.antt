@@ -5,7 +5,8 @@ use Rattle.tw_base.specs.Lists.{Each, how_many}
 use Rattle.block_spots.specs.Notes as marks
 use Rattle.block_spots.specs.Views.{words_in}
 use Rattle.coherence_inv.specs.Coherent.{HasWords, IsFault, IsGet}
-use Rattle.coherence_inv.specs.Parts.{IsDown, IsUp}
+use Rattle.stache_d_inv.specs.Coherent.{HasAnswered}
+use Rattle.stache_d_inv.specs.Parts.{IsDown, IsUp}
 use Rattle.coherence_reads.specs.Counts.{IsCount}
 use Rattle.coherence_reads.specs.declared.note.Note.{Note}
 use Rattle.coherence_reads.specs.declared.note.Note.TheVariants as n
@@ -45,7 +46,13 @@ of_sort s.DataRw = marks.is_data_rw
 of_sort s.RdFault = marks.is_rd_fault
 of_sort s.WrFault = marks.is_wr_fault
 
--- what the parts of coherence ask of a list of notes, where a block has w words and its home these
+-- Stache has such a message
+abbrev pub IsOfStache : marks.Note → Type 0
+IsOfStache marks.NRecallRo = ⊥
+IsOfStache (marks.NPutRo ws) = ⊥
+IsOfStache _ = Unit {0}
+
+-- what the parts of coherence ask of a list of notes, where a block has w words and copies are compared with these
 pub record IsSummary (w : ℕ) (words : List ℕ) (x : Summary) (ns : List marks.Note) : Type 0 where
   pub few : IsFew x.few ns
   pub get_ro : IsCount x.get_ro (how_many marks.is_get_ro ns)
@@ -58,4 +65,6 @@ pub record IsSummary (w : ℕ) (words : List ℕ) (x : Summary) (ns : List marks
   pub faults : Decides x.faults (Each IsFault ns)
   pub downs : Decides x.downs (Each (IsDown w) ns)
   pub ups : Decides x.ups (Each (IsUp w) ns)
+  pub shared : Decides x.shared (Each IsOfStache ns)
   pub same : Decides x.same (Each (HasWords words) ns)
+  pub answered : Decides x.answered (Each (HasAnswered words) ns)

@@ -5,11 +5,14 @@ use Rattle.tw_base.specs.Lists.{Each, how_many}
 use Rattle.tw_base.specs.NodeSets.{has}
 use Rattle.block_spots.specs.Cases.{CacheRo, Here, HomeRw}
 use Rattle.block_spots.specs.Notes.{Spot, gets_ro, gets_rw, held_home, held_ro, held_rw, is_data_ro, is_data_rw, is_rd_fault, is_wr_fault}
-use Rattle.coherence_inv.specs.Coherent.{HasWords, InHomeRoOrAcks, IsCacheState, IsFault, IsGet, OneRequest, RestFits, Stands, tag_of}
-use Rattle.coherence_inv.specs.Parts.{IsDown, IsUp, Which, First, Second, Third, Fourth, Fifth, Sixth, Seventh}
+use Rattle.coherence_inv.specs.Coherent.{HasWords, InHomeRoOrAcks, IsCacheState, IsFault, IsGet, OneRequest, tag_of}
+use Rattle.coherence_inv.specs.Parts.{Which, First, Second, Third, Fourth, Fifth, Sixth, Seventh}
+use Rattle.stache_d_inv.specs.Parts as parts_d
 use Rattle.coherence_reads.specs.Counts.{IsCount}
+use Rattle.coherence_reads.specs.Directories.{AnsweredUnder, IsDownUnder, IsUpUnder, RestFitsUnder, StandsUnder}
 use Rattle.coherence_reads.specs.Notes.{IsFew, IsSummary}
-use Rattle.coherence_reads.specs.Whose.{rest_in, state_in}
+use Rattle.block_reads.specs.Whose.{rest_in, state_in}
+use Rattle.stache_check.specs.declared.directory.Directory.{Directory}
 use Rattle.coherence_reads.specs.declared.part.Part.{Part}
 use Rattle.coherence_reads.specs.declared.part.Part.TheVariants as p
 use Rattle.coherence_reads.specs.declared.standing.Seen.{Seen}
@@ -26,12 +29,13 @@ pub record IsSeen (x : Seen) (s : Spot) (n k : ℕ) : Type 0 where
   pub down : IsFew x.down s.down
   pub up : IsFew x.up s.up
 
--- what the home has of cache i: whether it is a sharer, whether the owner, and its requests that are held
+-- what the home has of cache i: whether it is a sharer, whether the owner, its requests that are held, and what the home waits for
 pub record IsOfHome (x : OfHome) (home : Here) (i : ℕ) : Type 0 where
   pub shares : home.sharers i ≡ x.member
   pub owns : Decides x.owner (i ≡ home.owner)
   pub reads : IsCount x.held_ro (held_ro home.rest i)
   pub writes : IsCount x.held_rw (held_rw home.rest i)
+  pub rest : home.rest ≡ rest_in x.whose
 
 -- the block at its home
 abbrev pub here_in : Home → Here
@@ -45,7 +49,7 @@ here_in x = record {
   words = x.words;
 }
 
--- the block at a node, where a block has w words and its home these
+-- the block at a node, where a block has w words and its home these; what it answers is compared with its own
 pub record IsSpot (w : ℕ) (home : List ℕ) (x : At) (s : Spot) : Type 0 where
   pub state : s.state ≡ state_in x.place
   pub rest : s.rest ≡ rest_in x.whose
@@ -54,19 +58,20 @@ pub record IsSpot (w : ℕ) (home : List ℕ) (x : At) (s : Spot) : Type 0 where
   pub ask : IsSummary w home x.ask s.ask
   pub kept : IsSummary w home x.kept s.kept
   pub down : IsSummary w home x.down s.down
-  pub up : IsSummary w home x.up s.up
+  pub up : IsSummary w x.words x.up s.up
 
 -- what a part of coherence asks of a cache: the block has w words, n nodes, this home node and this home
-abbrev pub CacheFits : Which → ℕ → ℕ → ℕ → Here → ℕ → Spot → Type 0
-CacheFits First w n h home i s = IsCacheState s.state × (s.tag ≡ tag_of s.state)
-CacheFits Second w n h home i s = RestFits n h s.state s.rest
-CacheFits Third w n h home i s = Each IsGet s.ask × Each IsGet s.kept × Each (IsDown w) s.down × Each (IsUp w) s.up
-CacheFits Fourth w n h home i s = OneRequest s.state (gets_ro s + held_ro home.rest i) (how_many is_data_ro s.down) (gets_rw s + held_rw home.rest i) (how_many is_data_rw s.down)
-CacheFits Fifth w n h home i s = Stands home.state home i s (gets_ro s + held_ro home.rest i) (gets_rw s + held_rw home.rest i)
-CacheFits Sixth w n h home i s =
+abbrev pub CacheFits : Directory → Which → ℕ → ℕ → ℕ → Here → ℕ → Spot → Type 0
+CacheFits d First w n h home i s = IsCacheState s.state × (s.tag ≡ tag_of s.state)
+CacheFits d Second w n h home i s = RestFitsUnder d n h s.state s.rest
+CacheFits d Third w n h home i s = Each IsGet s.ask × Each IsGet s.kept × Each (IsDownUnder d w) s.down × Each (IsUpUnder d w) s.up
+CacheFits d Fourth w n h home i s = OneRequest s.state (gets_ro s + held_ro home.rest i) (how_many is_data_ro s.down) (gets_rw s + held_rw home.rest i) (how_many is_data_rw s.down)
+CacheFits d Fifth w n h home i s = StandsUnder d home.state home i s (gets_ro s + held_ro home.rest i) (gets_rw s + held_rw home.rest i)
+CacheFits d Sixth w n h home i s =
     (InHomeRoOrAcks home.state → s.state ≡ CacheRo → s.words ≡ home.words)
     × (InHomeRoOrAcks home.state → Each (HasWords home.words) s.down)
-CacheFits Seventh w n h home i s = Unit {0}
+    × AnsweredUnder d home s
+CacheFits d Seventh w n h home i s = Unit {0}
 
 -- what part 3 and part 4 ask of the home's own spot
 abbrev pub OwnPlaces : Spot → Type 0
@@ -85,3 +90,12 @@ which p.Fourth = Fourth
 which p.Fifth = Fifth
 which p.Sixth = Sixth
 which p.Seventh = Seventh
+
+abbrev pub which_d : Which → parts_d.Which
+which_d First = parts_d.First
+which_d Second = parts_d.Second
+which_d Third = parts_d.Third
+which_d Fourth = parts_d.Fourth
+which_d Fifth = parts_d.Fifth
+which_d Sixth = parts_d.Sixth
+which_d Seventh = parts_d.Seventh

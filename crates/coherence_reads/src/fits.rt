@@ -6,17 +6,19 @@ ghost use Rattle.block_spots.specs.Notes as marks;
 ghost use Rattle.coherence_inv.specs.Coherent.{HasWords, InHomeRoOrAcks};
 ghost use Rattle.coherence_inv.specs.Parts.{First, Second, Third, Fourth, Fifth, Sixth};
 ghost use Rattle.coherence_reads.specs.Counts.{IsCount};
-ghost use Rattle.coherence_reads.specs.Notes.{IsFew};
+ghost use Rattle.coherence_reads.specs.Directories.{AnsweredUnder, IsDownUnder, IsUpUnder};
+ghost use Rattle.stache_check.specs.declared.directory.Directory.{Directory as Protocol};
+ghost use Rattle.coherence_reads.specs.Notes.{IsFew, IsSummary};
 ghost use Rattle.coherence_reads.specs.Seeing.{CacheFits, IsOfHome, IsSeen, IsSpot, OwnPlaces, OwnRequests, here_in, which};
-ghost use Rattle.coherence_reads.specs.Whose.{state_in};
+ghost use Rattle.block_reads.specs.Whose.{state_in};
 
 use crate::count::both;
 use crate::standing::stands;
 use crate::states::{
     held_home, held_ro, held_rw, is_cache, is_shared, one_request, rest_fits, tag_of,
 };
-use crate::{Count, Few, Home, OfHome, Part, Seen, Spot};
-use stache_check::Place;
+use crate::{Count, Few, Home, OfHome, Part, Seen, Spot, Summary};
+use stache_check::{Directory, Place};
 use tw_base::{Data, NodeId};
 
 /// The GET_ROs of a cache on the way, deferred or held.
@@ -64,29 +66,54 @@ fn of_home(home: &Home, node: NodeId) -> OfHome
         owner: node == home.owner,
         held_ro: held_ro(home.whose, node),
         held_rw: held_rw(home.whose, node),
+        whose: home.whose,
     }
 }
 
 fn has_tag(x: &Spot) -> bool
-    ensures { (w n h i : ℕ) (ws : List ℕ) (home : Here) (s : marks.Spot) → IsSpot w ws x.now s → Decides result (CacheFits First w n h home i s) }
+    ensures { (d : Protocol) (w n h i : ℕ) (ws : List ℕ) (home : Here) (s : marks.Spot) → IsSpot w ws x.now s → Decides result (CacheFits d First w n h home i s) }
 {
     is_cache(x.place) && x.tag == tag_of(x.place)
 }
 
-fn has_rest(x: &Spot, nodes: u8, home: NodeId) -> bool
-    ensures { (w i : ℕ) (ws : List ℕ) (at : Here) (s : marks.Spot) → IsSpot w ws x.now s → Decides result (CacheFits Second w nodes home at i s) }
+fn has_rest(directory: Directory, x: &Spot, nodes: u8, home: NodeId) -> bool
+    ensures { (w i : ℕ) (ws : List ℕ) (at : Here) (s : marks.Spot) → IsSpot w ws x.now s → Decides result (CacheFits directory Second w nodes home at i s) }
 {
-    rest_fits(nodes, home, x.place, x.whose)
+    rest_fits(directory, nodes, home, x.place, x.whose)
 }
 
-fn has_its_notes(x: &Spot) -> bool
-    ensures { (w n h i : ℕ) (ws : List ℕ) (home : Here) (s : marks.Spot) → IsSpot w ws x.now s → Decides result (CacheFits Third w n h home i s) }
+/// Whether each note is one that the protocol's homes send to caches on channel 1.
+fn are_down(directory: Directory, notes: &Summary) -> bool
+    ensures { (w : ℕ) (ws : List ℕ) (ns : List marks.Note) → IsSummary w ws notes.now ns → Decides result (Each (IsDownUnder directory w) ns) }
 {
-    x.ask.gets && x.kept.gets && x.down.downs && x.up.ups
+    match directory {
+        Directory::Stache => both(notes.downs, notes.shared),
+        Directory::StacheD => notes.downs,
+    }
+}
+
+/// Whether each note is one that the protocol's caches send to homes on channel 1.
+fn are_up(directory: Directory, notes: &Summary) -> bool
+    ensures { (w : ℕ) (ws : List ℕ) (ns : List marks.Note) → IsSummary w ws notes.now ns → Decides result (Each (IsUpUnder directory w) ns) }
+{
+    match directory {
+        Directory::Stache => both(notes.ups, notes.shared),
+        Directory::StacheD => notes.ups,
+    }
+}
+
+fn has_its_notes(directory: Directory, x: &Spot) -> bool
+    ensures { (w n h i : ℕ) (ws : List ℕ) (home : Here) (s : marks.Spot) → IsSpot w ws x.now s → Decides result (CacheFits directory Third w n h home i s) }
+{
+    let requests = both(x.ask.gets, x.kept.gets);
+    both(
+        requests,
+        both(are_down(directory, &x.down), are_up(directory, &x.up)),
+    )
 }
 
 fn has_one_request(x: &Spot, home: &Home, node: NodeId) -> bool
-    ensures { (w n h : ℕ) (ws : List ℕ) (s : marks.Spot) → IsSpot w ws x.now s → Decides result (CacheFits Fourth w n h (here_in home.now) node s) }
+    ensures { (d : Protocol) (w n h : ℕ) (ws : List ℕ) (s : marks.Spot) → IsSpot w ws x.now s → Decides result (CacheFits d Fourth w n h (here_in home.now) node s) }
 {
     one_request(
         x.place,
@@ -95,10 +122,15 @@ fn has_one_request(x: &Spot, home: &Home, node: NodeId) -> bool
     )
 }
 
-fn stands_so(x: &Spot, home: &Home, node: NodeId) -> bool
-    ensures { (w n h : ℕ) (ws : List ℕ) (s : marks.Spot) → IsSpot w ws x.now s → Decides result (CacheFits Fifth w n h (here_in home.now) node s) }
+fn stands_so(directory: Directory, x: &Spot, home: &Home, node: NodeId) -> bool
+    ensures { (w n h : ℕ) (ws : List ℕ) (s : marks.Spot) → IsSpot w ws x.now s → Decides result (CacheFits directory Fifth w n h (here_in home.now) node s) }
 {
-    stands(home.place, of_home(home, node), &seen(x, home, node))
+    stands(
+        directory,
+        home.place,
+        of_home(home, node),
+        &seen(x, home, node),
+    )
 }
 
 fn are_same(words: Data, others: Data) -> bool
@@ -130,14 +162,35 @@ fn brings_its_words(x: &Spot, home: &Home) -> bool
     x.down.same
 }
 
-fn has_copy(x: &Spot, home: &Home) -> bool
-    ensures { (w n h i : ℕ) (s : marks.Spot) → IsSpot w home.now.words x.now s → Decides result (CacheFits Sixth w n h (here_in home.now) i s) }
+/// Whether a copy that an owner of Stache_D keeps has the words that it answered.
+fn answered_its_words(x: &Spot, home: &Home) -> bool
+    ensures { (w : ℕ) (ws : List ℕ) (s : marks.Spot) → IsSpot w ws x.now s → Decides result (AnsweredUnder Protocol.StacheD (here_in home.now) s) }
 {
-    both(has_its_words(x, home), brings_its_words(x, home))
+    match (home.place, x.place) {
+        (Place::HomePut, Place::CacheRo) => x.up.answered,
+        _ => true,
+    }
+}
+
+fn has_answered(directory: Directory, x: &Spot, home: &Home) -> bool
+    ensures { (w : ℕ) (ws : List ℕ) (s : marks.Spot) → IsSpot w ws x.now s → Decides result (AnsweredUnder directory (here_in home.now) s) }
+{
+    match directory {
+        Directory::Stache => true,
+        Directory::StacheD => answered_its_words(x, home),
+    }
+}
+
+fn has_copy(directory: Directory, x: &Spot, home: &Home) -> bool
+    ensures { (w n h i : ℕ) (s : marks.Spot) → IsSpot w home.now.words x.now s → Decides result (CacheFits directory Sixth w n h (here_in home.now) i s) }
+{
+    let coming = both(brings_its_words(x, home), has_answered(directory, x, home));
+    both(has_its_words(x, home), coming)
 }
 
 /// Whether a cache is as a part of coherence asks.
 pub fn cache_fits(
+    directory: Directory,
     part: Part,
     x: &Spot,
     home: &Home,
@@ -145,15 +198,15 @@ pub fn cache_fits(
     home_node: NodeId,
     node: NodeId,
 ) -> bool
-    ensures { (w : ℕ) (s : marks.Spot) → IsSpot w home.now.words x.now s → Decides result (CacheFits (which part) w nodes home_node (here_in home.now) node s) }
+    ensures { (w : ℕ) (s : marks.Spot) → IsSpot w home.now.words x.now s → Decides result (CacheFits directory (which part) w nodes home_node (here_in home.now) node s) }
 {
     match part {
         Part::First => has_tag(x),
-        Part::Second => has_rest(x, nodes, home_node),
-        Part::Third => has_its_notes(x),
+        Part::Second => has_rest(directory, x, nodes, home_node),
+        Part::Third => has_its_notes(directory, x),
         Part::Fourth => has_one_request(x, home, node),
-        Part::Fifth => stands_so(x, home, node),
-        Part::Sixth => has_copy(x, home),
+        Part::Fifth => stands_so(directory, x, home, node),
+        Part::Sixth => has_copy(directory, x, home),
         Part::Seventh => true,
     }
 }

@@ -6,7 +6,7 @@ ghost use Rattle.block_spots.specs.Views.{int_of, value_at};
 ghost use Rattle.teapot_meaning.specs.Steps.{node_of, set_of};
 ghost use Rattle.coherence_inv.specs.Coherent.{Infos, IsCacheNode};
 ghost use Rattle.coherence_reads.specs.Seeing.{here_in};
-ghost use Rattle.coherence_reads.specs.Whose.{state_in};
+ghost use Rattle.block_reads.specs.Whose.{state_in};
 
 use crate::states::is_cache_node;
 use crate::{Home, is_nobody};

@@ -3,8 +3,9 @@ ghost use Rattle.std.specs.Bool.{Decides};
 ghost use Rattle.block_spots.specs.Notes as marks;
 ghost use Rattle.block_spots.specs.Views.{seen_message, words_in};
 ghost use Rattle.coherence_inv.specs.Coherent.{HasWords, IsFault, IsGet};
-ghost use Rattle.coherence_inv.specs.Parts.{IsDown, IsUp};
-ghost use Rattle.coherence_reads.specs.Notes.{note_in};
+ghost use Rattle.stache_d_inv.specs.Coherent.{HasAnswered};
+ghost use Rattle.stache_d_inv.specs.Parts.{IsDown, IsUp};
+ghost use Rattle.coherence_reads.specs.Notes.{IsOfStache, note_in};
 
 use tw_base::{Data, Kind, Message};
 
@@ -71,8 +72,9 @@ fn has_words(payload: Option<Data>, words: Data) -> bool
 impl Note {
     ghost use Rattle.std.specs.Bool.{Decides};
     ghost use Rattle.coherence_inv.specs.Coherent.{HasWords, IsFault, IsGet};
-    ghost use Rattle.coherence_inv.specs.Parts.{IsDown, IsUp};
-    ghost use Rattle.coherence_reads.specs.Notes.{note_in};
+    ghost use Rattle.stache_d_inv.specs.Coherent.{HasAnswered};
+    ghost use Rattle.stache_d_inv.specs.Parts.{IsDown, IsUp};
+    ghost use Rattle.coherence_reads.specs.Notes.{IsOfStache, note_in};
 
     pub fn is_get(&self) -> bool
         ensures { Decides result (IsGet (note_in self.now)) }
@@ -95,6 +97,7 @@ impl Note {
             Note::DataRw(payload) => has_length(payload, words),
             Note::Inv => true,
             Note::Recall => true,
+            Note::RecallRo => true,
             _ => false,
         }
     }
@@ -105,8 +108,26 @@ impl Note {
     {
         match *self {
             Note::Put(payload) => has_length(payload, words),
+            Note::PutRo(payload) => has_length(payload, words),
             Note::Ack => true,
             _ => false,
+        }
+    }
+
+    /// Whether Stache has such a message: all but the recall that leaves the owner its copy, and its answer.
+    pub fn is_of_stache(&self) -> bool
+        ensures { Decides result (IsOfStache (note_in self.now)) }
+    {
+        !matches!(*self, Note::RecallRo | Note::PutRo(_))
+    }
+
+    /// Whether these are the words that it answers, where its sender keeps its copy.
+    pub fn has_answered(&self, words: Data) -> bool
+        ensures { Decides result (HasAnswered words (note_in self.now)) }
+    {
+        match *self {
+            Note::PutRo(payload) => has_words(payload, words),
+            _ => true,
         }
     }
 

@@ -4,13 +4,16 @@ ghost use Rattle.tw_base.specs.NodeSets.{has};
 ghost use Rattle.block_spots.specs.Cases.{Here};
 ghost use Rattle.block_spots.specs.Notes as marks;
 ghost use Rattle.coherence_inv.specs.Coherent.{Answers, Apart, GivesBack, IsAway, IsSharer, Owns, Stands};
+ghost use Rattle.stache_d_inv.specs.Coherent as words_d;
 ghost use Rattle.coherence_reads.specs.Counts.{IsCount};
+ghost use Rattle.coherence_reads.specs.Directories.{StandsUnder};
 ghost use Rattle.coherence_reads.specs.Notes.{IsFew};
-ghost use Rattle.coherence_reads.specs.Whose.{state_in};
+ghost use Rattle.block_reads.specs.Whose.{rest_in, state_in};
 ghost use Rattle.coherence_reads.specs.Seeing.{IsOfHome, IsSeen};
 
-use crate::{Count, Few, Note};
-use stache_check::Place;
+use crate::count::both;
+use crate::{Count, Few, Note, Whose};
+use stache_check::{Directory, Place};
 use tw_base::{NodeId, NodeSet};
 
 /// What a cache's row is read off.
@@ -34,6 +37,8 @@ pub struct OfHome {
     pub owner: bool,
     pub held_ro: Count,
     pub held_rw: Count,
+    /// Whose request the home serves.
+    pub whose: Whose,
 }
 
 /// Whether a cache is away, by how many of its requests are held or on the way.
@@ -143,8 +148,8 @@ fn stands_put(x: &Seen, held_ro: Count, held_rw: Count) -> bool
     gives_back(x.place, x.ro, x.wr, x.down, x.up) && held_ro.plus(held_rw).is_zero()
 }
 
-/// Whether a cache stands as the home's state asks.
-pub fn stands(home: Place, has: OfHome, x: &Seen) -> bool
+/// Whether a cache stands as the home's state asks, under Stache.
+fn stands_of_stache(home: Place, has: OfHome, x: &Seen) -> bool
     ensures { (h : Here) (i : ℕ) (s : marks.Spot) (ro wr : ℕ) → IsSeen x.now s ro wr → IsOfHome has h i → Decides result (Stands (state_in home) h i s ro wr) }
 {
     match home {
@@ -160,6 +165,81 @@ pub fn stands(home: Place, has: OfHome, x: &Seen) -> bool
             }
         }
         _ => false,
+    }
+}
+
+/// Whether an owner stands that is to keep a copy: it has its block and the recall is on the way, or it is as a sharer and has answered.
+fn gives_copy(x: &Seen) -> bool
+    ensures { (s : marks.Spot) (ro wr : ℕ) → IsSeen x.now s ro wr → Decides result (words_d.GivesCopy s.state (marks.gets_rw s) s.down s.up) }
+{
+    match (x.down, x.up) {
+        (Few::One(Note::RecallRo), Few::Empty) => matches!(x.place, Place::CacheRw),
+        (Few::Two(Note::DataRw(_), Note::RecallRo), Few::Empty) => matches!(
+            x.place,
+            Place::CacheWaitRw
+        ),
+        (Few::Empty, Few::One(Note::PutRo(_))) => match x.place {
+            Place::CacheRo => true,
+            Place::CacheWaitRw => x.gets.is_one(),
+            _ => false,
+        },
+        _ => false,
+    }
+}
+
+/// Whether the owner gives its block back.
+fn returns_all(x: &Seen) -> bool
+    ensures { (s : marks.Spot) (ro wr : ℕ) → IsSeen x.now s ro wr → Decides result (GivesBack s.state ro wr s.down s.up) }
+{
+    gives_back(x.place, x.ro, x.wr, x.down, x.up)
+}
+
+/// Whether the owner stands as the request asks that the home serves: a read leaves it a copy.
+fn is_recalled(x: &Seen, whose: Whose) -> bool
+    ensures { (s : marks.Spot) (ro wr : ℕ) → IsSeen x.now s ro wr → Decides result (words_d.Recalled (rest_in whose) s.state ro wr (marks.gets_rw s) s.down s.up) }
+{
+    match whose {
+        Whose::OfLoad => gives_copy(x),
+        Whose::OfRo(_) => gives_copy(x),
+        Whose::NoRest => returns_all(x),
+        Whose::OfHome => returns_all(x),
+        Whose::OfRw(_) => returns_all(x),
+        Whose::OfCache => returns_all(x),
+    }
+}
+
+/// Whether the owner stands as a home asks that waits for its words, under Stache_D.
+fn stands_recalled(x: &Seen, has: OfHome) -> bool
+    ensures { (h : Here) (i : ℕ) (s : marks.Spot) (ro wr : ℕ) → IsSeen x.now s ro wr → IsOfHome has h i → Decides result (words_d.Recalled h.rest s.state ro wr (marks.gets_rw s) s.down s.up × (marks.held_ro h.rest i + marks.held_rw h.rest i ≡ 0)) }
+{
+    both(
+        is_recalled(x, has.whose),
+        has.held_ro.plus(has.held_rw).is_zero(),
+    )
+}
+
+fn stands_of_d(home: Place, has: OfHome, x: &Seen) -> bool
+    ensures { (h : Here) (i : ℕ) (s : marks.Spot) (ro wr : ℕ) → IsSeen x.now s ro wr → IsOfHome has h i → Decides result (words_d.Stands (state_in home) h i s ro wr) }
+{
+    match home {
+        Place::HomePut => {
+            if has.owner {
+                stands_recalled(x, has)
+            } else {
+                is_apart(x)
+            }
+        }
+        _ => stands_of_stache(home, has, x),
+    }
+}
+
+/// Whether a cache stands as the home's state asks.
+pub fn stands(directory: Directory, home: Place, has: OfHome, x: &Seen) -> bool
+    ensures { (h : Here) (i : ℕ) (s : marks.Spot) (ro wr : ℕ) → IsSeen x.now s ro wr → IsOfHome has h i → Decides result (StandsUnder directory (state_in home) h i s ro wr) }
+{
+    match directory {
+        Directory::Stache => stands_of_stache(home, has, x),
+        Directory::StacheD => stands_of_d(home, has, x),
     }
 }
 

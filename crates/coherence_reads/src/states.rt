@@ -4,12 +4,14 @@ ghost use Rattle.tw_base.specs.Lists.{one_if};
 ghost use Rattle.block_spots.specs.Notes.{held_home, held_ro, held_rw};
 ghost use Rattle.stache_table.specs.Blocks.{LeftFits, left_of};
 ghost use Rattle.coherence_inv.specs.Coherent.{InHomeRoOrAcks, IsCacheNode, IsCacheState, IsHomeState, IsSettled, IsWaiting, OneRequest, RestFits, tag_of};
+ghost use Rattle.stache_d_inv.specs.Coherent as words_d;
+ghost use Rattle.coherence_reads.specs.Directories.{RestFitsUnder};
 ghost use Rattle.coherence_reads.specs.Counts.{IsCount};
-ghost use Rattle.coherence_reads.specs.Whose.{rest_in, state_in};
+ghost use Rattle.block_reads.specs.Whose.{rest_in, state_in};
 
 use crate::{Count, Whose};
 use sqlite_items::Boxed;
-use stache_check::Place;
+use stache_check::{Directory, Place};
 use teapot_meaning::Cont;
 use tw_base::{NodeId, Tag};
 
@@ -70,8 +72,8 @@ pub fn is_cache_node(nodes: u8, home: NodeId, node: NodeId) -> bool
     node.get() < nodes && node != home
 }
 
-/// Whether a block in this state may have this continuation.
-pub fn rest_fits(nodes: u8, home: NodeId, place: Place, whose: Whose) -> bool
+/// Whether a block of Stache in this state may have this continuation.
+fn rest_fits_of_stache(nodes: u8, home: NodeId, place: Place, whose: Whose) -> bool
     ensures { Decides result (RestFits nodes home (state_in place) (rest_in whose)) }
 {
     match place {
@@ -88,6 +90,33 @@ pub fn rest_fits(nodes: u8, home: NodeId, place: Place, whose: Whose) -> bool
         },
         Place::CacheWaitRo | Place::CacheWaitRw => matches!(whose, Whose::OfCache),
         _ => matches!(whose, Whose::NoRest),
+    }
+}
+
+/// Whether a block of Stache_D in this state may have this continuation.
+#[tactic(auto, using(crate::proofs::Elsewhere::fits_elsewhere))]
+fn rest_fits_of_d(nodes: u8, home: NodeId, place: Place, whose: Whose) -> bool
+    ensures { Decides result (words_d.RestFits nodes home (state_in place) (rest_in whose)) }
+{
+    match place {
+        Place::HomePut => match whose {
+            Whose::OfHome => true,
+            Whose::OfLoad => true,
+            Whose::OfRo(node) => is_cache_node(nodes, home, node),
+            Whose::OfRw(node) => is_cache_node(nodes, home, node),
+            _ => false,
+        },
+        _ => rest_fits_of_stache(nodes, home, place, whose),
+    }
+}
+
+/// Whether a block in this state may have this continuation.
+pub fn rest_fits(directory: Directory, nodes: u8, home: NodeId, place: Place, whose: Whose) -> bool
+    ensures { Decides result (RestFitsUnder directory nodes home (state_in place) (rest_in whose)) }
+{
+    match directory {
+        Directory::Stache => rest_fits_of_stache(nodes, home, place, whose),
+        Directory::StacheD => rest_fits_of_d(nodes, home, place, whose),
     }
 }
 
@@ -144,6 +173,7 @@ pub fn held_home(whose: Whose) -> Count
 {
     match whose {
         Whose::OfHome => Count::One,
+        Whose::OfLoad => Count::One,
         _ => Count::Zero,
     }
 }

@@ -20,7 +20,8 @@ pub enum Sort {
 }
 
 /// What is kept of the notes of a list: the notes, where they are few, how many there are of a sort, and whether each is
-/// a request, a fault, one that a home or a cache sends on channel 1, and no copy but of the home's words.
+/// a request, a fault, one that a home or a cache sends on channel 1, one that Stache has, no copy but of these words, and
+/// no answer of another's but these.
 #[derive(Clone, Copy)]
 pub struct Summary {
     pub few: Few,
@@ -34,7 +35,9 @@ pub struct Summary {
     pub faults: bool,
     pub downs: bool,
     pub ups: bool,
+    pub shared: bool,
     pub same: bool,
+    pub answered: bool,
 }
 
 fn is_of_sort(note: &Note, sort: Sort) -> bool
@@ -82,11 +85,13 @@ impl Summary {
             faults: true,
             downs: true,
             ups: true,
+            shared: true,
             same: true,
+            answered: true,
         }
     }
 
-    /// With one more note, where a block has this many words and its home these.
+    /// With one more note, where a block has this many words and copies are compared with these.
     pub fn and(&self, note: &Note, count: u8, words: Data) -> Self
         ensures { (ns : List marks.Note) → IsSummary count words self.now ns → IsSummary count words result (ns ++ note_in note.now ∷ []) }
     {
@@ -102,7 +107,9 @@ impl Summary {
             faults: both(self.faults, note.is_fault()),
             downs: both(self.downs, note.is_down(count)),
             ups: both(self.ups, note.is_up(count)),
+            shared: both(self.shared, note.is_of_stache()),
             same: both(self.same, note.has_words(words)),
+            answered: both(self.answered, note.has_answered(words)),
         }
     }
 }

@@ -1,7 +1,8 @@
--- What the words, terms, statements and states stand for by which the shipped protocol is told.
+-- What the words, terms, statements and states stand for by which the protocols are told.
 use Rattle.std.specs.Prelude.{Bool, true, false, codes, List, [], ◌∷◌, None, Option, Some, map}
 use Rattle.tw_base.specs.declared.name.Name.{Name}
 use Rattle.teapot_tree.specs.declared.expr.Expr.{Expr}
+use Rattle.teapot_tree.specs.declared.expr.Op.TheVariants as op
 use Rattle.teapot_tree.specs.declared.stmt.Stmt.{Stmt}
 use Rattle.teapot_tree.specs.declared.stmt.Do.TheOpen.{Do-F}
 use Rattle.stache_tree.specs.Code as code
@@ -17,6 +18,9 @@ use Rattle.stache_check.specs.declared.line.Plain.TheVariants as p
 use Rattle.stache_check.specs.declared.line.Branch.{Branch}
 use Rattle.stache_check.specs.declared.line.Branch.TheVariants as b
 use Rattle.stache_tree.specs.Tree.{message, home_rw, home_ro, home_excl, home_acks, home_put, cache_inv, cache_ro, cache_rw, cache_wait_ro, cache_wait_rw}
+use Rattle.stache_d_tree.specs.Tree.{cache_rw_d, home_excl_d, home_put_d}
+use Rattle.stache_check.specs.declared.directory.Directory.{Directory}
+use Rattle.stache_check.specs.declared.directory.Directory.TheVariants as d
 use Rattle.stache_check.specs.declared.protocol.Sent.{Sent}
 use Rattle.stache_check.specs.declared.protocol.Place.{Place}
 use Rattle.stache_check.specs.declared.protocol.Place.TheVariants as pl
@@ -32,6 +36,7 @@ use Rattle.stache_check.specs.declared.line.Line.TheVariants as l
 
 abbrev pub word_of : Word → Name
 word_of w.Stache = codes "Stache"
+word_of w.StacheD = codes "Stache_D"
 word_of w.Sharers = codes "sharers"
 word_of w.Owner = codes "owner"
 word_of w.Acks = codes "acks"
@@ -46,6 +51,8 @@ word_of w.Put = codes "PUT"
 word_of w.Inv = codes "INV"
 word_of w.Ack = codes "ACK"
 word_of w.Recall = codes "RECALL"
+word_of w.RecallRo = codes "RECALL_RO"
+word_of w.PutRo = codes "PUT_RO"
 word_of w.HomeRw = codes "Home_RW"
 word_of w.HomeRo = codes "Home_RO"
 word_of w.HomeExcl = codes "Home_Excl"
@@ -69,6 +76,7 @@ term_of (t.Atom x) = atom_of x
 term_of (t.One x) = One (atom_of x)
 term_of (t.Count x) = Count (atom_of x)
 term_of (t.Two op x y) = Two op (atom_of x) (atom_of y)
+term_of (t.WithOne x y) = Two op.With (One (atom_of x)) (atom_of y)
 
 abbrev pub atom_expr : Atom → Expr
 atom_expr x = expr_of (atom_of x)
@@ -128,3 +136,13 @@ state_by pl.CacheRo = cache_ro
 state_by pl.CacheRw = cache_rw
 state_by pl.CacheWaitRo = cache_wait_ro
 state_by pl.CacheWaitRw = cache_wait_rw
+
+abbrev pub state_by_d : Place → State
+state_by_d pl.HomeExcl = home_excl_d
+state_by_d pl.HomePut = home_put_d
+state_by_d pl.CacheRw = cache_rw_d
+state_by_d place = state_by place
+
+abbrev pub state_under : Directory → Place → State
+state_under d.Stache = state_by
+state_under d.StacheD = state_by_d

@@ -1,13 +1,15 @@
 ghost use Rattle.std.specs.Prelude.{◌≡◌, ◌↔◌, IsTrue, Some, None, [], ◌∷◌, map, if◌then◌else◌};
 ghost use Rattle.teapot_tree.specs.Bare.{bare_message, bare_param, bare_start, bare_state};
+ghost use Rattle.stache_d_tree.specs.Tree.{IsStacheD, stache_d, states_d};
 ghost use Rattle.stache_tree.specs.Tree.{IsStache, info, message, starts_in, stache, states, home_rw, home_ro, home_excl, home_acks, home_put, cache_inv, cache_ro, cache_rw, cache_wait_ro, cache_wait_rw};
-ghost use Rattle.stache_check.specs.Words.{cont_of, message_of, state_by, word_of};
+ghost use Rattle.stache_check.specs.Words.{cont_of, message_of, state_by, state_by_d, state_under, word_of};
 
 use crate::states::{
     is_cache_inv, is_cache_ro, is_cache_rw, is_cache_wait_ro, is_cache_wait_rw, is_home_acks,
     is_home_excl, is_home_put, is_home_ro, is_home_rw,
 };
-use crate::{Word, are_none};
+use crate::states_d::{is_cache_rw_d, is_home_excl_d, is_home_put_d};
+use crate::{Directory, Word, are_none};
 use teapot_tree::{Handler, MessageDecl, Param, Protocol, Start, State, ValType};
 use tw_base::{Chan, Name, Tag};
 
@@ -106,7 +108,7 @@ pub enum Place {
     CacheWaitRw,
 }
 
-fn is_state(s: &State, place: Place) -> bool
+fn is_state_of_stache(s: &State, place: Place) -> bool
     ensures { IsTrue result ↔ (bare_state s.now ≡ state_by place) }
 {
     let handlers = s.handlers.items();
@@ -124,14 +126,36 @@ fn is_state(s: &State, place: Place) -> bool
     }
 }
 
-fn are_states(states: &[State], places: &[Place]) -> bool
-    ensures { IsTrue result ↔ (map bare_state states.now ≡ map state_by places.now) }
+#[tactic(auto, using(crate::proofs::Places::same_elsewhere))]
+fn is_state_of_d(s: &State, place: Place) -> bool
+    ensures { IsTrue result ↔ (bare_state s.now ≡ state_by_d place) }
+{
+    let handlers = s.handlers.items();
+    match place {
+        Place::HomeExcl => is_head(s, Word::HomeExcl, false) && is_home_excl_d(handlers),
+        Place::HomePut => is_head(s, Word::HomePut, true) && is_home_put_d(handlers),
+        Place::CacheRw => is_head(s, Word::CacheRw, false) && is_cache_rw_d(handlers),
+        _ => is_state_of_stache(s, place),
+    }
+}
+
+fn is_state(s: &State, directory: Directory, place: Place) -> bool
+    ensures { IsTrue result ↔ (bare_state s.now ≡ state_under directory place) }
+{
+    match directory {
+        Directory::Stache => is_state_of_stache(s, place),
+        Directory::StacheD => is_state_of_d(s, place),
+    }
+}
+
+fn are_states(states: &[State], directory: Directory, places: &[Place]) -> bool
+    ensures { IsTrue result ↔ (map bare_state states.now ≡ map (state_under directory) places.now) }
 {
     if states.len() != places.len() {
         return false;
     }
     for (at, s) in states.iter().enumerate() {
-        if !is_state(s, places[at]) {
+        if !is_state(s, directory, places[at]) {
             return false;
         }
     }
@@ -188,28 +212,28 @@ fn are_all_messages(messages: &[MessageDecl]) -> bool
     )
 }
 
+/// The states of each of the protocols, in their order.
+const PLACES: [Place; 10] = [
+    Place::HomeRw,
+    Place::HomeRo,
+    Place::HomeExcl,
+    Place::HomeAcks,
+    Place::HomePut,
+    Place::CacheInv,
+    Place::CacheRo,
+    Place::CacheRw,
+    Place::CacheWaitRo,
+    Place::CacheWaitRw,
+];
+
 #[tactic(auto, unfolding(stache_tree::specs::Tree::states))]
 fn are_all_states(found: &[State]) -> bool
     ensures { IsTrue result ↔ (map bare_state found.now ≡ states) }
 {
-    are_states(
-        found,
-        &[
-            Place::HomeRw,
-            Place::HomeRo,
-            Place::HomeExcl,
-            Place::HomeAcks,
-            Place::HomePut,
-            Place::CacheInv,
-            Place::CacheRo,
-            Place::CacheRw,
-            Place::CacheWaitRo,
-            Place::CacheWaitRw,
-        ],
-    )
+    are_states(found, Directory::Stache, &PLACES)
 }
 
-/// Whether it is the shipped protocol, line numbers aside.
+/// Whether it is Stache, line numbers aside.
 pub fn is_stache(p: &Protocol) -> bool
     ensures { IsTrue result ↔ IsStache p.now }
 {
@@ -219,4 +243,83 @@ pub fn is_stache(p: &Protocol) -> bool
         && are_infos(p.infos.items())
         && are_starts(p.starts.items())
         && are_all_states(p.states.items())
+}
+
+/// The messages of Stache_D: those of Stache, a recall that leaves a copy, and its answer.
+const MESSAGES_OF_D: [Sent; 10] = [
+    Sent {
+        word: Word::GetRo,
+        chan: Chan::Zero,
+        carries: false,
+    },
+    Sent {
+        word: Word::GetRw,
+        chan: Chan::Zero,
+        carries: false,
+    },
+    Sent {
+        word: Word::DataRo,
+        chan: Chan::One,
+        carries: true,
+    },
+    Sent {
+        word: Word::DataRw,
+        chan: Chan::One,
+        carries: true,
+    },
+    Sent {
+        word: Word::Put,
+        chan: Chan::One,
+        carries: true,
+    },
+    Sent {
+        word: Word::Inv,
+        chan: Chan::One,
+        carries: false,
+    },
+    Sent {
+        word: Word::Ack,
+        chan: Chan::One,
+        carries: false,
+    },
+    Sent {
+        word: Word::Recall,
+        chan: Chan::One,
+        carries: false,
+    },
+    Sent {
+        word: Word::RecallRo,
+        chan: Chan::One,
+        carries: false,
+    },
+    Sent {
+        word: Word::PutRo,
+        chan: Chan::One,
+        carries: true,
+    },
+];
+
+fn are_messages_of_d(messages: &[MessageDecl]) -> bool
+    ensures { IsTrue result ↔ (map bare_message messages.now ≡ stache_d.messages) }
+{
+    are_messages(messages, &MESSAGES_OF_D)
+}
+
+#[tactic(auto, unfolding(stache_d_tree::specs::Tree::states_d))]
+fn are_states_of_d(found: &[State]) -> bool
+    ensures { IsTrue result ↔ (map bare_state found.now ≡ states_d) }
+{
+    are_states(found, Directory::StacheD, &PLACES)
+}
+
+/// Whether it is Stache_D, line numbers aside.
+pub fn is_stache_d(p: &Protocol) -> bool
+    ensures { IsTrue result ↔ IsStacheD p.now }
+{
+    Word::StacheD.is(&p.name)
+        && p.profile == 1
+        && are_messages_of_d(p.messages.items())
+        && are_infos(p.infos.items())
+        && are_starts(p.starts.items())
+        && are_states_of_d(p.states.items())
 }

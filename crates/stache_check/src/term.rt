@@ -19,6 +19,8 @@ pub enum Term {
     One(Atom),
     Count(Atom),
     Two(Op, Atom, Atom),
+    /// `With(One(a), b)`: the set of two nodes.
+    WithOne(Atom, Atom),
 }
 
 pub fn is_atom(e: &Expr, atom: Atom) -> bool
@@ -34,6 +36,15 @@ pub fn is_atom(e: &Expr, atom: Atom) -> bool
     }
 }
 
+fn is_one(e: &Expr, atom: Atom) -> bool
+    ensures { IsTrue result ↔ (e.now ≡ term_expr (Term.One atom)) }
+{
+    match e {
+        Expr::One(a) => is_atom(a.get(), atom),
+        _ => false,
+    }
+}
+
 pub fn is_term(e: &Expr, term: Term) -> bool
     ensures { IsTrue result ↔ (e.now ≡ term_expr term) }
 {
@@ -43,6 +54,9 @@ pub fn is_term(e: &Expr, term: Term) -> bool
         (Expr::Count(a), Term::Count(x)) => is_atom(a.get(), x),
         (Expr::Two(op, a, b), Term::Two(other, x, y)) => {
             *op == other && is_atom(a.get(), x) && is_atom(b.get(), y)
+        }
+        (Expr::Two(op, a, b), Term::WithOne(x, y)) => {
+            *op == Op::With && is_one(a.get(), x) && is_atom(b.get(), y)
         }
         _ => false,
     }

@@ -6,6 +6,7 @@ use tw_base::Name;
 #[derive(Clone, Copy)]
 pub enum Word {
     Stache,
+    StacheD,
     Sharers,
     Owner,
     Acks,
@@ -20,6 +21,8 @@ pub enum Word {
     Inv,
     Ack,
     Recall,
+    RecallRo,
+    PutRo,
     HomeRw,
     HomeRo,
     HomeExcl,
@@ -40,6 +43,7 @@ impl Word {
     {
         match self {
             Word::Stache => b"Stache",
+            Word::StacheD => b"Stache_D",
             Word::Sharers => b"sharers",
             Word::Owner => b"owner",
             Word::Acks => b"acks",
@@ -54,6 +58,8 @@ impl Word {
             Word::Inv => b"INV",
             Word::Ack => b"ACK",
             Word::Recall => b"RECALL",
+            Word::RecallRo => b"RECALL_RO",
+            Word::PutRo => b"PUT_RO",
             Word::HomeRw => b"Home_RW",
             Word::HomeRo => b"Home_RO",
             Word::HomeExcl => b"Home_Excl",

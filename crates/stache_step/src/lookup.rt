@@ -1,6 +1,6 @@
 ghost use Rattle.std.specs.Prelude.{◌≡◌, ℕ};
 ghost use Rattle.block_spots.specs.Cases as cases;
-ghost use Rattle.coherence_reads.specs.Whose.{rest_in, state_in};
+ghost use Rattle.block_reads.specs.Whose.{rest_in, state_in};
 ghost use Rattle.stache_table.specs.Numbered.{last_row, put_row, row_at};
 ghost use Rattle.stache_step.specs.Steps.{kind_in};
 

@@ -1,7 +1,6 @@
+use Rattle.dsm_model.specs.Globals.{setup_of, world_of}
+use Rattle.coherence_check.proofs.Together.{sixth}
 use Rattle.coherence_check.proofs.parts.copies.Goals as goal
 
 pub returns : goal.returns
-returns c = (
-  λ r. let p = c.caches_fit.ensures.0 r in record { held = λ i l d. (p i l d).0; coming = λ i l d. (p i l d).1 },
-  λ a. c.caches_fit.ensures.1 (λ i l d. (a.held i l d, a.coming i l d)),
-)
+returns c = sixth c.args.directory (setup_of c.args.g.now) (world_of c.args.g.now) c.args.block _ c.caches_fit.ensures

@@ -3,15 +3,15 @@ use Rattle.std.specs.Bool.{Decides}
 use Rattle.block_spots.specs.Cases.{Here}
 use Rattle.dsm_model.specs.Globals.{setup_of, world_of}
 use Rattle.dsm_runs.specs.Setups.{home_of}
-use Rattle.coherence_inv.specs.Parts.{home_seen}
-use Rattle.coherence_inv.specs.Coherent.{RestFits}
+use Rattle.coherence_check.specs.Under.{home_under}
+use Rattle.coherence_reads.specs.Directories.{RestFitsUnder}
 use Rattle.coherence_check.proofs.parts.home_has_rest.Goals as goal
 
 pub returns : goal.returns
 returns c =
     let r = c.rest_fits.result in
     let own = c.home_at-own.ensures in
-    let x : Here = home_seen (setup_of c.args.g.now) (world_of c.args.g.now) c.args.block in
-    subst (λ (n : ℕ). Decides r (RestFits n (home_of (setup_of c.args.g.now) c.args.block) x.state x.rest)) c.nodes.ensures.value
-    (subst (λ (h : ℕ). Decides r (RestFits c.nodes.result h x.state x.rest)) c.home.ensures.value
-    (subst (λ (z : Here). Decides r (RestFits c.nodes.result c.home.result z.state z.rest)) own c.rest_fits.ensures))
+    let x : Here = home_under c.args.directory (setup_of c.args.g.now) (world_of c.args.g.now) c.args.block in
+    subst (λ (n : ℕ). Decides r (RestFitsUnder c.args.directory n (home_of (setup_of c.args.g.now) c.args.block) x.state x.rest)) c.nodes.ensures.value
+    (subst (λ (h : ℕ). Decides r (RestFitsUnder c.args.directory c.nodes.result h x.state x.rest)) c.home.ensures.value
+    (subst (λ (z : Here). Decides r (RestFitsUnder c.args.directory c.nodes.result c.home.result z.state z.rest)) own c.rest_fits.ensures))

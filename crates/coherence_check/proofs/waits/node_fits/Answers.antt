@@ -1,4 +1,5 @@
 use Rattle.coherence_reads.proofs.Lists.{both_so}
+use Rattle.coherence_check.proofs.Together.{at_node}
 use Rattle.coherence_check.proofs.waits.node_fits.Goals as goal
 
 pub returns : goal.returns
@@ -7,17 +8,5 @@ returns c = λ s i b l k.
     let woken = both_so _ _ _ _ _ (c.woken_loads.ensures h i b l k) (c.woken_stores.ensures h i b l k) c.both-woken.ensures in
     let held = both_so _ _ _ _ _ (c.own_held.ensures h i b l k) (both_so _ _ _ _ _ (c.own_blocked.ensures h i b l k) woken c.both.ensures) c.both-held.ensures in
     let own = both_so _ _ _ _ _ (c.own_read.ensures h i b l k) (both_so _ _ _ _ _ (c.own_write.ensures h i b l k) held c.both-2.ensures) c.both-own.ensures in
-    let all = both_so _ _ _ _ _ (c.waits_ro.ensures h i b l k) (both_so _ _ _ _ _ (c.waits_rw.ensures h i b l k) (both_so _ _ _ _ _ (c.blocked_waits.ensures h i b l k) own c.both-3.ensures) c.both-4.ensures) c.both-5.ensures in (
-      λ r. let p = all.0 r in record {
-        waits_ro = p.0;
-        waits_rw = p.1.0;
-        blocked = p.1.1.0;
-        rd = p.1.1.1.0;
-        wr = p.1.1.1.1.0;
-        held = p.1.1.1.1.1.0;
-        blocked_home = p.1.1.1.1.1.1.0;
-        woken_loads = p.1.1.1.1.1.1.1.0;
-        woken_stores = p.1.1.1.1.1.1.1.1;
-      },
-      λ a. all.1 (a.waits_ro, (a.waits_rw, (a.blocked, (a.rd, (a.wr, (a.held, (a.blocked_home, (a.woken_loads, a.woken_stores)))))))),
-    )
+    let all = both_so _ _ _ _ _ (c.waits_ro.ensures h i b l k) (both_so _ _ _ _ _ (c.waits_rw.ensures h i b l k) (both_so _ _ _ _ _ (c.blocked_waits.ensures h i b l k) own c.both-3.ensures) c.both-4.ensures) c.both-5.ensures in
+    at_node c.args.directory s l i b _ all

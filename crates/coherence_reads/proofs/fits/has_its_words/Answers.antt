@@ -1,6 +1,6 @@
 use Rattle.std.proofs.Common.{◌≡◌, ap, sym, ◌∙◌}
 use Rattle.block_spots.specs.Cases.{CacheRo}
-use Rattle.coherence_reads.specs.Whose.{state_in}
+use Rattle.block_reads.specs.Whose.{state_in}
 use Rattle.coherence_reads.proofs.fits.has_its_words.Goals as goal
 
 pub returns-in-CacheRo : goal.returns-in-CacheRo

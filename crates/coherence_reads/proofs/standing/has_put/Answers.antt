@@ -1,5 +1,5 @@
 use Rattle.coherence_reads.proofs.Away.{put_away}
-use Rattle.coherence_reads.specs.Whose.{state_in}
+use Rattle.block_reads.specs.Whose.{state_in}
 use Rattle.coherence_reads.proofs.standing.has_put.Goals as goal
 
 pub returns : goal.returns

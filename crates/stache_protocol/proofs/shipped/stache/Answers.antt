@@ -1,17 +1,21 @@
-use Rattle.std.proofs.Common.{◌∙◌, Some, ap, sym}
-use Rattle.stache_protocol.proofs.Tied.{is-stache, is-tree}
+use Rattle.std.proofs.Common.{ap, arith, length, subst, sym}
+use Rattle.std.proofs.lemmas.Result.{IfOk-weaker}
+use Rattle.shipped_text.specs.Text.{shipped_text}
+use Rattle.stache_tree.specs.Tree.{stache as literal}
+use Rattle.protocol_texts.specs.Texts.{IsAcceptedText}
+use Rattle.protocol_texts.proofs.Tied.{accepted-text, is-literal}
+use Rattle.stache_protocol.proofs.Tied.{text-length}
 use Rattle.stache_protocol.proofs.shipped.stache.Goals as goal
 
-pub check-requires : goal.check-requires
-check-requires c = is-tree c.shipped_text_is_stache.ensures _ c.in_ok-protocol.ensures
+pub accepted_protocol-requires-clause-room : goal.accepted_protocol-requires-clause-room
+accepted_protocol-requires-clause-room c = omega (arith, text-length, ap (λ t. length t) c.stache_text.ensures)
 
-pub returns-in-Ok-clause-text : goal.returns-in-Ok-clause-text
-returns-in-Ok-clause-text c = c.in_ok-protocol.ensures ∙ ap Some (sym c.in-Ok.ensures.0)
+pub accepted_protocol-requires-clause-accepted : goal.accepted_protocol-requires-clause-accepted
+accepted_protocol-requires-clause-accepted c =
+    subst IsAcceptedText (sym c.stache_text.ensures) (accepted-text literal shipped_text c.shipped_text_is_stache.ensures c.stache_is_accepted.ensures)
 
-pub returns-in-Ok-clause-tree : goal.returns-in-Ok-clause-tree
-returns-in-Ok-clause-tree c = is-stache c.shipped_text_is_stache.ensures _ (c.in_ok-protocol.ensures ∙ ap Some (sym c.in-Ok.ensures.0))
+pub returns-clause-text : goal.returns-clause-text
+returns-clause-text c = rw c.stache_text.ensures at c.accepted_protocol.ensures
 
-pub unreachable-requires : goal.unreachable-requires
-unreachable-requires c =
-    let answer = rw c.in-Err-Broken.field-0-is at c.in-Err-Broken.ensures in
-    (c.stache_is_accepted.ensures _ (is-stache c.shipped_text_is_stache.ensures _ c.in_ok-protocol.ensures)).keeps _ _ answer.broken
+pub returns-clause-tree : goal.returns-clause-tree
+returns-clause-tree c = IfOk-weaker _ _ _ (is-literal literal shipped_text c.shipped_text_is_stache.ensures) (rw c.stache_text.ensures at c.accepted_protocol.ensures)

@@ -2,10 +2,11 @@ use Rattle.std.proofs.Common.{ℕ, ◌+◌, List, [], ◌∷◌, ◌++◌, subst
 use Rattle.tw_base.specs.Lists.{how_many}
 use Rattle.block_spots.specs.Notes as marks
 use Rattle.coherence_inv.specs.Coherent.{HasWords, IsFault, IsGet}
-use Rattle.coherence_inv.specs.Parts.{IsDown, IsUp}
+use Rattle.stache_d_inv.specs.Coherent.{HasAnswered}
+use Rattle.stache_d_inv.specs.Parts.{IsDown, IsUp}
 use Rattle.coherence_reads.specs.declared.count.Count.{Count}
 use Rattle.coherence_reads.specs.Counts.{IsCount}
-use Rattle.coherence_reads.specs.Notes.{note_in}
+use Rattle.coherence_reads.specs.Notes.{IsOfStache, note_in}
 use Rattle.coherence_reads.proofs.Lists.{each_more, one_more}
 use Rattle.coherence_reads.proofs.summary.Summary.and.Goals as goal
 
@@ -26,5 +27,7 @@ returns c = λ ns h.
       faults = each_more IsFault ns x _ _ _ h.faults c.is_fault.ensures c.both-2.ensures;
       downs = each_more (IsDown c.args.count) ns x _ _ _ h.downs c.is_down.ensures c.both-3.ensures;
       ups = each_more (IsUp c.args.count) ns x _ _ _ h.ups c.is_up.ensures c.both-4.ensures;
-      same = each_more (HasWords c.args.words) ns x _ _ _ h.same c.has_words.ensures c.both-5.ensures;
+      shared = each_more IsOfStache ns x _ _ _ h.shared c.is_of_stache.ensures c.both-5.ensures;
+      same = each_more (HasWords c.args.words) ns x _ _ _ h.same c.has_words.ensures c.both-6.ensures;
+      answered = each_more (HasAnswered c.args.words) ns x _ _ _ h.answered c.has_answered.ensures c.both-7.ensures;
     }
