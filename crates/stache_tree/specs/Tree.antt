@@ -28,8 +28,12 @@ starts_in home name tag = record { home = home; state = name; tag = tag; line = 
 abbrev pub info : Name → ValType → Param
 info name ty = record { name = name; ty = ty; line = 0 }
 
+-- a handler with these variables of its own
+abbrev pub on_with : Trigger → List Param → Code → Handler
+on_with trigger locals code = record { on = trigger; args = []; locals = locals; body = stmts_of code; line = 0 }
+
 abbrev pub on : Trigger → Code → Handler
-on trigger code = record { on = trigger; args = []; locals = []; body = stmts_of code; line = 0 }
+on trigger code = on_with trigger [] code
 
 abbrev pub state : Name → Option Name → List Handler → State
 state name cont handlers = record { name = name; params = []; cont = cont; handlers = handlers; line = 0 }

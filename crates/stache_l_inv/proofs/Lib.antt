@@ -1,0 +1,16 @@
+pub mod Caches
+pub mod Homes
+pub mod Directory
+pub mod Blocks
+pub mod Turns
+pub mod AnswerTurns
+pub mod Nodes
+pub mod NoErrors
+pub mod Paid
+pub mod Sends
+pub mod Says
+pub mod Downs
+pub mod Meant
+pub mod Starting
+pub mod Scheme
+pub mod FewCopies

@@ -1,0 +1,4 @@
+pub mod Coherent
+pub mod Copies
+pub mod Parts
+pub mod Laws

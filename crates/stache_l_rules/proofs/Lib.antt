@@ -1,0 +1,4 @@
+pub mod Doors
+pub mod Literal
+pub mod Given
+pub mod Accepted

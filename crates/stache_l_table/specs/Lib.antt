@@ -1,0 +1,3 @@
+pub mod Handling
+pub mod Blocks
+pub mod Laws
