@@ -1,0 +1,4 @@
+mod OneReplay
+mod Plain
+mod Reading
+mod Replayed

@@ -1,0 +1,5 @@
+pub mod Audits
+pub mod Executing
+pub mod Lines
+pub mod Nodes
+pub mod Texts

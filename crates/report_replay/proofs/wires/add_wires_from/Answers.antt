@@ -1,0 +1,12 @@
+use Rattle.std.proofs.Common.{ℕ, List, ◌++◌, ap, ◌∙◌}
+use Rattle.printed_text.proofs.Growing.{range_grown}
+use Rattle.dsm_model.specs.Globals.{world_of}
+use Rattle.report_replay.specs.Texts.{wires_between}
+use Rattle.report_replay.proofs.wires.add_wires_from.Goals as goal
+
+pub loop-number-preserved : goal.loop-number-preserved
+loop-number-preserved c =
+    let f : ℕ → List ℕ = wires_between (world_of c.args.g.now) c.args.from in
+    let before : List ℕ = c.loop-number.out in
+    let at = rw c.unwrap-to.ensures at c.new.ensures in
+    range_grown f c.args.out.now before c.add_between.new.out c.loop-number.number c.loop-number.invariant (c.in_ok-add_between.ensures ∙ ap (λ (k : ℕ). before ++ f k) at.1)

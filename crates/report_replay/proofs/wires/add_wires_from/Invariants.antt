@@ -1,0 +1,8 @@
+use Rattle.std.proofs.Common.{◌≡◌, ◌++◌}
+use Rattle.std.specs.List.{flat_map, range_with_len}
+use Rattle.dsm_model.specs.Globals.{world_of}
+use Rattle.report_replay.specs.Texts.{wires_between}
+use Rattle.report_replay.proofs.wires.add_wires_from.Given as goal
+
+abbrev pub invariant-loop-number : goal.invariant-loop-number
+invariant-loop-number l = l.out ≡ l.initial.out ++ flat_map (wires_between (world_of l.g) l.from) (range_with_len 0 l.number)
