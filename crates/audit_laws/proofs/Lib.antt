@@ -1,0 +1,6 @@
+mod Beside
+mod Counting
+mod Executed
+mod Dues
+mod Ends
+pub mod Whole

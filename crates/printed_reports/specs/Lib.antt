@@ -1,0 +1,5 @@
+pub mod Lexing
+pub mod Named
+pub mod Reading
+pub mod Reports
+pub mod Runs

@@ -1,0 +1,6 @@
+pub mod Processors
+pub mod Payloads
+mod Nodes
+mod Flat
+pub mod Whole
+pub mod Reports

@@ -1,0 +1,3 @@
+mod Heads
+pub mod Settings
+pub mod Texts
