@@ -10,11 +10,12 @@ use Rattle.dsm_runs.specs.Flat.{flat_start}
 use Rattle.dsm_runs.specs.Locals.{Local}
 use Rattle.dsm_runs.specs.Setups.{IsSetup, Setup}
 use Rattle.dsm_runs.specs.Worlds.{Runs, Step, World, start}
-use Rattle.stache_tree.specs.Tree.{IsStache}
-use Rattle.coherence_inv.specs.Ends.{NoInstruction}
-use Rattle.coherence_inv.specs.Potential.{is_handler_event}
-use Rattle.coherence_inv.proofs.Followed.{faults_are_followed}
-use Rattle.coherence_inv.proofs.Keeping.{goes_on, starts_kept}
+use Rattle.coherence_frame.specs.Ends.{NoInstruction}
+use Rattle.coherence_frame.specs.Parts.{IsTreeOf}
+use Rattle.coherence_frame.specs.Potential.{is_handler_event}
+use Rattle.coherence_frame.proofs.Followed.{faults_are_followed}
+use Rattle.coherence_frame.proofs.Keeping.{goes_on, starts_kept}
+use Rattle.coherence_frame.proofs.Scheme.{Scheme}
 use Rattle.sound_runs.specs.Sound.{RefusedAccessesAreCompleted}
 
 -- ---- a run in two parts
@@ -72,20 +73,20 @@ fault_keeps_cpu s g e h store b is r =
 -- ---- the access
 
 pub refused_accesses_are_completed :
-    (s : Setup) (j : List Entry) (g : World) → IsSetup s → IsStache s.protocol → Runs s (start s) j g →
+    (p : Scheme) (s : Setup) (j : List Entry) (g : World) → IsSetup s → IsTreeOf p.wording s.protocol → Runs s (start s) j g →
     RefusedAccessesAreCompleted s j
-refused_accesses_are_completed s j g is stache r earlier between later e e2 store b split fault none same instructs =
+refused_accesses_are_completed p s j g is tree r earlier between later e e2 store b split fault none same instructs =
     let all : Runs s (start s) (earlier ++ e ∷ (between ++ e2 ∷ later)) g = subst
     (λ (es : List Entry). Runs s (start s) es g) split r in
     let to = parts s earlier (e ∷ (between ++ e2 ∷ later)) (start s) g all in
     let from = parts s between (e2 ∷ later) to.two.0 g to.two.2 in
-    let kept = goes_on s earlier (start s) to.mid (flat_start s) is (starts_kept s is stache) to.one in
+    let kept = goes_on p s earlier (start s) to.mid (flat_start s) is (starts_kept p s is tree) to.one in
     record {
       refused = to.mid;
       completed = from.mid;
       to_refused = to.one;
       to_completed = (to.two.0, to.two.1, from.one);
-      access = faults_are_followed s to.mid to.two.0 from.mid from.two.0 kept.flat e e2 between store b is kept.kept to.two.1
+      access = faults_are_followed p s to.mid to.two.0 from.mid from.two.0 kept.flat e e2 between store b is kept.kept to.two.1
           fault from.one none from.two.1 same instructs;
       same_processor = run_keeps_cpu s between to.two.0 from.mid e.node none from.one ∙ fault_keeps_cpu s to.mid e to.two.0
           store b fault to.two.1;

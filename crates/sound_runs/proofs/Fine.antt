@@ -1,4 +1,4 @@
--- Under the shipped protocol no handler fails.
+-- Under a protocol that keeps coherence no handler fails.
 use Rattle.std.proofs.Common.{◌≡◌, ℕ, ◌<◌, List, [], ◌∷◌, Option, Some, None, refl, sym, ap, ◌∙◌}
 use Rattle.tw_base.specs.Lists.{Each}
 use Rattle.tw_base.specs.declared.entry.Act.{Act}
@@ -13,9 +13,10 @@ use Rattle.dsm_runs.specs.Events.{Acts, Handles, after_of, failure}
 use Rattle.dsm_runs.specs.Locals.{Local}
 use Rattle.dsm_runs.specs.Setups.{IsSetup, Setup}
 use Rattle.dsm_runs.specs.Worlds.{Runs, World}
-use Rattle.coherence_inv.specs.Laws.{IsKept}
-use Rattle.coherence_inv.specs.Parts.{First}
-use Rattle.coherence_inv.proofs.Keeping.{events_keep}
+use Rattle.coherence_frame.specs.Laws.{IsKept}
+use Rattle.coherence_frame.specs.Parts.{First}
+use Rattle.coherence_frame.proofs.Keeping.{events_keep}
+use Rattle.coherence_frame.proofs.Scheme.{Scheme}
 use Rattle.sound_runs.specs.Sound.{CameToItsEnd}
 
 fine : (e : End) → failure e ≡ None → e ≡ Fine
@@ -54,16 +55,17 @@ acts_fine s i l front x e sends (act.Delivered kind block from chan number) ok p
 
 -- in a coherent state no node has failed
 pub unfailed :
-    (s : Setup) (g : World) (m : Machine) (i : ℕ) → IsSetup s → IsKept s g m → i < s.shape.nodes → (g.locals i).failed ≡ None
-unfailed s g m i is k l = (k.coherent 0 is.limits.some_block First).unfailed i l
+    (p : Scheme) (s : Setup) (g : World) (m : Machine) (i : ℕ) → IsSetup s → IsKept p.wording s g m → i < s.shape.nodes →
+    (g.locals i).failed ≡ None
+unfailed p s g m i is k l = (k.coherent 0 is.limits.some_block First).unfailed i l
 
 pub handlers_fine :
-    (s : Setup) (g : World) (j : List Entry) (h : World) (m : Machine) → IsSetup s → IsKept s g m → Runs s g j h →
-    Each CameToItsEnd j
-handlers_fine s g [] h m is k r = tt
-handlers_fine s g (e ∷ j) h m is k r =
-    let on = events_keep s g e r.0 m is k r.1 in (
+    (p : Scheme) (s : Setup) (g : World) (j : List Entry) (h : World) (m : Machine) → IsSetup s → IsKept p.wording s g m →
+    Runs s g j h → Each CameToItsEnd j
+handlers_fine p s g [] h m is k r = tt
+handlers_fine p s g (e ∷ j) h m is k r =
+    let on = events_keep p s g e r.0 m is k r.1 in (
       acts_fine s e.node (g.locals e.node) r.1.front (r.0.locals e.node) e r.1.sends e.act
-          (unfailed s r.0 on.goes.next e.node is on.kept r.1.local.at_node) r.1.local.acts,
-      handlers_fine s r.0 j h on.goes.next is on.kept r.2,
+          (unfailed p s r.0 on.goes.next e.node is on.kept r.1.local.at_node) r.1.local.acts,
+      handlers_fine p s r.0 j h on.goes.next is on.kept r.2,
     )

@@ -1,2 +1,3 @@
 pub mod Stamps
 pub mod Sound
+pub mod Shipped

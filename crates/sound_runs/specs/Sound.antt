@@ -1,4 +1,4 @@
--- A run under the shipped protocol is sound to its end.
+-- A run under a shipped protocol is sound to its end.
 use Rattle.std.specs.Prelude.{◌≡◌, ◌↔◌, ℕ, ◌-◌, ◌*◌, ◌<◌, ◌≤◌, Bool, List, ◌∷◌, ◌++◌, Some, None}
 use Rattle.tw_base.specs.Lists.{Each, sum_below}
 use Rattle.tw_base.specs.declared.entry.Act.TheVariants as act
@@ -13,9 +13,9 @@ use Rattle.dsm_runs.specs.Locals.{IsReady, Local}
 use Rattle.dsm_runs.specs.Outcomes.{outcome_of}
 use Rattle.dsm_runs.specs.Setups.{IsSetup, Setup}
 use Rattle.dsm_runs.specs.Worlds.{IsQuiet, Runs, World, start}
-use Rattle.stache_tree.specs.Tree.{IsStache}
-use Rattle.coherence_inv.specs.Ends.{IsDone, IsDoneAccess, NoInstruction, Unspent}
-use Rattle.coherence_inv.specs.Potential.{faults_in, handled_in, is_handler_event, sent_in}
+use Rattle.coherence_frame.specs.Ends.{IsDone, IsDoneAccess, NoInstruction, Unspent}
+use Rattle.coherence_frame.specs.Potential.{faults_in, handled_in, is_handler_event, sent_in}
+use Rattle.sound_runs.specs.Shipped.{IsShipped}
 
 -- ---- no handler fails
 
@@ -94,7 +94,7 @@ pub record IsSoundToItsEnd (s : Setup) (j : List Entry) (g : World) : Type 0 whe
   pub outcomes : (i : ℕ) → i < s.shape.nodes → EndsSoundly s (g.locals i)
   pub completed : RefusedAccessesAreCompleted s j
 
-abbrev pub StacheIsSoundToItsEnd : Type 0
-StacheIsSoundToItsEnd =
-    (s : Setup) (j : List Entry) (g : World) → IsSetup s → IsStache s.protocol → Runs s (start s) j g → IsQuiet s g →
+abbrev pub ShippedAreSoundToTheirEnd : Type 0
+ShippedAreSoundToTheirEnd =
+    (s : Setup) (j : List Entry) (g : World) → IsSetup s → IsShipped s.protocol → Runs s (start s) j g → IsQuiet s g →
     IsSoundToItsEnd s j g
