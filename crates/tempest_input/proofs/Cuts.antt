@@ -1,6 +1,5 @@
 -- Where a part of a layout stops: the lines up to there can go on, and with the next one they cannot.
-use Rattle.std.proofs.Common.{◌≡◌, inl, inr, ℕ, zero, suc, Bool, true, false, cond, List, [], ◌∷◌, ◌++◌, Option, Some, None, Result, Ok, Err, refl, sym, ap, subst, ◌∙◌, append_assoc}
-use Rattle.std.proofs.lemmas.Bool.{eqb-true}
+use Rattle.std.proofs.Common.{◌≡◌, inl, inr, ℕ, zero, suc, Bool, true, false, cond, List, [], ◌∷◌, ◌++◌, Option, Some, None, Result, Ok, Err, refl, sym, ap, ◌∙◌, append_assoc}
 use Rattle.std.proofs.lemmas.List.{append-nil}
 use Rattle.std.specs.Prelude.{◌==◌, codes}
 use Rattle.tw_base.specs.Answers.{◌>>=◌}
@@ -12,15 +11,16 @@ use Rattle.tempest_input.specs.declared.head.Head.{Head}
 use Rattle.tempest_input.specs.declared.head.Head.TheVariants as heads
 use Rattle.tempest_input.specs.declared.head.Field.{Field}
 use Rattle.tempest_input.specs.declared.head.Shipped.{Shipped}
-use Rattle.tempest_input.specs.declared.layout.Body.{Body}
 use Rattle.tempest_input.specs.declared.layout.Section.{Section}
 use Rattle.tempest_input.specs.declared.layout.Choice.{Choice}
 use Rattle.tempest_input.specs.declared.layout.Choice.TheVariants as choices
+use Rattle.tempest_input.specs.declared.layout.Ending.{Ending}
+use Rattle.tempest_input.specs.declared.layout.Ending.TheVariants as endings
 use Rattle.tempest_input.specs.declared.error.InputError.{InputError}
 use Rattle.tempest_input.specs.Heads.{head_of}
-use Rattle.tempest_input.specs.Layout.{at_end, body_as, body_in, choice_as, choice_in, field_as, field_in, is_end, misfit, node_in, number_in, section_in, sections_as, sections_below, with_line}
+use Rattle.tempest_input.specs.Layout.{behind, body_as, body_in, choice_as, choice_in, ending_in, ends_so, field_as, field_in, is_end, misfit, node_in, number_in, section_in, sections_as, sections_below, with_line}
 use Rattle.tempest_input.specs.Laws.{IsBody, IsChoice, IsSections}
-use Rattle.tempest_input.proofs.Parts.{bind-err, body-back, body-on, end-not, err-same, node-says, section-back, starts}
+use Rattle.tempest_input.proofs.Parts.{EndingOf, behind_all, bind-err, end-not, err-same, node-says, section-back, starts}
 
 -- ---- lines to go on with
 
@@ -38,6 +38,14 @@ one_line word = record { number = 0; tokens = written (whats.Word word) ∷ writ
 pub ends : head_of end_line.tokens ≡ heads.End
 unfolding head_of
 ends = refl
+
+-- `report`
+abbrev pub report_line : Line
+report_line = record { number = 0; tokens = written (whats.Word (codes "report")) ∷ [] }
+
+reports : head_of report_line.tokens ≡ heads.Report
+unfolding head_of
+reports = refl
 
 -- ---- one field
 
@@ -118,93 +126,59 @@ sections-cut all (suc k) (l ∷ ls) e last closes is = go (node_in (head_of l.to
 
 -- ---- the protocol
 
--- whatever follows, these lines and the next one choose no protocol
-abbrev pub NoChoice : ℕ → List Line → List Line → Type 0
-NoChoice version taken [] = Unit {0}
-NoChoice version taken (next ∷ rest) = (more : List Line) → (e : InputError) × (choice_in version 0 (taken ++ next ∷ more) ≡ Err e)
+-- one more line, and these choose a protocol
+abbrev pub IsCut : ℕ → List Line → Line → Type 0
+IsCut version lines last = (c : Choice) × IsChoice version c (lines ++ last ∷ [])
 
-pub record IsCut (version all : ℕ) (lines : List Line) (e : InputError) : Type 0 where
-  pub taken : List Line
-  pub rest : List Line
-  pub lines_are : lines ≡ taken ++ rest
-  pub answer : e ≡ misfit all rest
-  pub more : List Line
-  pub choice : Choice
-  pub goes_on : IsChoice version choice (taken ++ more)
-  pub stops : NoChoice version taken rest
-
--- a line that does not begin a choice
-unfit : (version all : ℕ) (l : Line) (ls : List Line) (e : InputError) → ((more : List Line) → choice_in version 0 (l ∷ more) ≡ Err (misfit 0 (l ∷ more))) → ◌≡◌ {A = Result Choice InputError} (Err (misfit all (l ∷ ls))) (Err e) → IsCut version all (l ∷ ls) e
-unfit version all l ls e stuck is = record {
-  taken = [];
-  rest = l ∷ ls;
-  lines_are = refl;
-  answer = sym (err-same (misfit all (l ∷ ls)) e is);
-  more = [];
-  choice = choices.Default;
-  goes_on = refl;
-  stops = λ more. (misfit 0 (l ∷ more), stuck more);
-}
-
--- a line behind a choice
-behind : (version all : ℕ) (lines taken rest : List Line) (c : Choice) (e : InputError) → lines ≡ taken ++ rest → IsChoice version c taken → ((other : List Line) → choice_in version 0 (taken ++ other) ≡ at_end 0 other c)
-    → at_end all rest c ≡ Err e → IsCut version all lines e
-behind version all lines taken [] c e lines_are chosen on is = absurd (cc is)
-behind version all lines taken (next ∷ rest) c e lines_are chosen on is = record {
-  taken = taken;
-  rest = next ∷ rest;
-  lines_are = lines_are;
-  answer = sym (err-same (misfit all (next ∷ rest)) e is);
-  more = [];
-  choice = c;
-  goes_on = subst (IsChoice version c) (sym (append-nil taken)) chosen;
-  stops = λ more. (misfit 0 (next ∷ more), on (next ∷ more));
-}
-
--- a section of a protocol that does not end
-unended : (version all : ℕ) (l : Line) (ls : List Line) (e : InputError) → head_of l.tokens ≡ heads.Protocol → body_in all ls ≡ Err e → IsCut version all (l ∷ ls) e
-unended version all l ls e opens is =
-    let q = body-cut all ls e is in
-    record {
-      taken = l ∷ ls;
-      rest = [];
-      lines_are = sym (append-nil (l ∷ ls));
-      answer = q.0;
-      more = end_line ∷ [];
-      choice = choices.Own l.number (record { lines = ls; end = 0 });
-      goes_on = record { opening = l; closing = end_line; lines_are = refl; opens = opens; line_is = refl; body_is = q.1; closes = ends; last_is = refl };
-      stops = tt;
-    }
-
--- a line behind the section of a protocol
-ended : (version all : ℕ) (l : Line) (ls : List Line) (b : Body × List Line) (e : InputError) → head_of l.tokens ≡ heads.Protocol → body_in all ls ≡ Ok b → at_end all b.1 (choices.Own l.number b.0) ≡ Err e → IsCut version all (l ∷ ls) e
+-- the lines of a protocol's section do not end
+pub choice-cut : (version all : ℕ) (lines : List Line) (e : InputError) (last : Line) → head_of last.tokens ≡ heads.End → choice_in version all lines ≡ Err e
+    → (e ≡ misfit all []) × IsCut version lines last
 unfolding choice_in
-ended version all l ls b e opens is f =
-    let q = body-back all ls b is in
-    let taken : List Line = l ∷ (b.0.lines ++ q.0 ∷ []) in
-    let on : (other : List Line) → choice_in version 0 (taken ++ other) ≡ at_end 0 other (choices.Own l.number b.0) = λ other.
-    ap (λ h. choice_as version 0 h l ((b.0.lines ++ q.0 ∷ []) ++ other)) opens ∙ ap (λ z. body_in 0 z >>= λ x. at_end 0 x.1 (choices.Own l.number x.0)) (append_assoc b.0.lines (q.0 ∷ []) other)
-    ∙ ap (λ r. r >>= λ x. at_end 0 x.1 (choices.Own l.number x.0)) (body-on 0 b.0.lines other q.0 q.2 q.3) ∙ (λ j. at_end 0 other (choices.Own l.number (record { lines = b.0.lines; end = q.4 j }))) in
-    behind version all (l ∷ ls) taken b.1 (choices.Own l.number b.0) e (ap (λ z. l ∷ z) (q.1 ∙ sym (append_assoc b.0.lines (q.0 ∷ []) b.1)))
-    (record { opening = l; closing = q.0; lines_are = refl; opens = opens; line_is = refl; body_is = q.2; closes = q.3; last_is = q.4 }) on f
-
-pub choice-cut : (version all : ℕ) (lines : List Line) (e : InputError) → choice_in version all lines ≡ Err e → IsCut version all lines e
-unfolding choice_in
-choice-cut version all [] e is = absurd (cc is)
-choice-cut version all (l ∷ ls) e is = go (head_of l.tokens) refl is
+choice-cut version all [] e last closes is = absurd (cc is)
+choice-cut version all (l ∷ ls) e last closes is = go (head_of l.tokens) refl is
   where
-    shipped_on : (which : Shipped) → head_of l.tokens ≡ heads.Shipped which → (v : Bool) → (version == 2) ≡ v → (other : List Line)
-        → choice_as version 0 (head_of l.tokens) l other ≡ cond v (at_end 0 other (choices.Shipped l.number which)) (Err (misfit 0 (l ∷ other)))
-    shipped_on which at v two other = ap (λ h. choice_as version 0 h l other) at ∙ ap (λ v. cond v (at_end 0 other (choices.Shipped l.number which)) (Err (misfit 0 (l ∷ other)))) two
+    shipped : (which : Shipped) (v : Bool) → ◌≡◌ {A = Result (Choice × List Line) InputError} (cond v (Ok (choices.Shipped l.number which, ls)) (Ok (choices.Default, l ∷ ls))) (Err e)
+        → (e ≡ misfit all []) × IsCut version (l ∷ ls) last
+    shipped which true f = absurd (cc f)
+    shipped which false f = absurd (cc f)
 
-    shipped : (which : Shipped) → head_of l.tokens ≡ heads.Shipped which → (v : Bool) → (version == 2) ≡ v → cond v (at_end all ls (choices.Shipped l.number which)) (Err (misfit all (l ∷ ls))) ≡ Err e → IsCut version all (l ∷ ls) e
-    shipped which at true two f = behind version all (l ∷ ls) (l ∷ []) ls (choices.Shipped l.number which) e refl (l, refl, eqb-true version 2 two, at, refl) (shipped_on which at true two) f
-    shipped which at false two f = unfit version all l ls e (shipped_on which at false two) f
-
-    go : (h : Head) → head_of l.tokens ≡ h → choice_as version all h l ls ≡ Err e → IsCut version all (l ∷ ls) e
-    go heads.Protocol at f = elim (bind-err (body_in all ls) (λ b. at_end all b.1 (choices.Own l.number b.0)) e f) as (λ p. IsCut version all (l ∷ ls) e) [
-      | inl p ↦ unended version all l ls e at p
-      | inr p ↦ ended version all l ls p.0 e at p.1 p.2
+    go : (h : Head) → head_of l.tokens ≡ h → choice_as version all h l ls ≡ Err e → (e ≡ misfit all []) × IsCut version (l ∷ ls) last
+    go heads.Protocol at f = elim (bind-err (body_in all ls) (λ b. Ok (choices.Own l.number b.0, b.1)) e f) as (λ p. (e ≡ misfit all []) × IsCut version (l ∷ ls) last) [
+      | inl p ↦
+          let q = body-cut all ls e p in (
+            q.0,
+            (
+              choices.Own l.number (record { lines = ls; end = last.number }),
+              record { opening = l; closing = last; lines_are = refl; opens = at; line_is = refl; body_is = q.1; closes = closes; last_is = refl },
+            ),
+          )
+      | inr p ↦ absurd (cc p.2)
     ]
-    go (heads.Shipped which) at f = shipped which at (version == 2) refl f
-    go _ at f = unfit version all l ls e (λ more. ap (λ h. choice_as version 0 h l more) at) f
+    go (heads.Shipped which) at f = shipped which (version == 2) f
+    go _ at f = absurd (cc f)
+
+-- ---- the end
+
+abbrev pub last_lines : Ending → List Line
+last_lines endings.Text = []
+last_lines endings.Report = report_line ∷ []
+
+pub last-lines-end : (ending : Ending) (all : ℕ) → EndingOf ending all (last_lines ending) (behind_all all [])
+last-lines-end endings.Text all = ((refl, refl), refl)
+last-lines-end endings.Report all = ((report_line, refl, reports), refl)
+
+pub ending-cut : (ending : Ending) (all : ℕ) (lines : List Line) (e : InputError) → ending_in ending all lines ≡ Err e → (e ≡ misfit all lines) × (ends_so ending lines ≡ false)
+unfolding ending_in
+ending-cut ending all lines e is = go (ends_so ending lines) refl is
+  where
+    go : (v : Bool) → ends_so ending lines ≡ v → cond v (Ok (behind_all all (behind lines))) (Err (misfit all lines)) ≡ Err e → (e ≡ misfit all lines) × (ends_so ending lines ≡ false)
+    go true at f = absurd (cc f)
+    go false at f = (sym (err-same (misfit all lines) e f), at)
+
+pub no-ending : (ending : Ending) (all : ℕ) (lines : List Line) → ends_so ending lines ≡ false → ending_in ending all lines ≡ Err (misfit all lines)
+unfolding ending_in
+no-ending ending all lines fails = ap (λ v. cond v (Ok (behind_all all (behind lines))) (Err (misfit all lines))) fails
+
+pub ends-alike : (ending : Ending) (next : Line) (more left : List Line) → ends_so ending (next ∷ more) ≡ ends_so ending (next ∷ left)
+ends-alike endings.Text next more left = refl
+ends-alike endings.Report next more left = refl

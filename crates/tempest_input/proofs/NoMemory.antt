@@ -27,16 +27,18 @@ use Rattle.tempest_input.specs.declared.layout.Init.{Init}
 use Rattle.tempest_input.specs.declared.layout.Section.{Section}
 use Rattle.tempest_input.specs.declared.layout.Choice.{Choice}
 use Rattle.tempest_input.specs.declared.layout.Choice.TheVariants as choices
+use Rattle.tempest_input.specs.declared.layout.Body.{Body}
+use Rattle.tempest_input.specs.declared.layout.Ending.{Ending}
 use Rattle.tempest_input.specs.declared.layout.Layout.{Layout}
 use Rattle.tempest_input.specs.declared.error.InputError.{InputError}
 use Rattle.tempest_input.specs.declared.error.InputError.TheVariants.{Memory}
 use Rattle.tempest_input.specs.declared.error.Why.{Why}
 use Rattle.tempest_input.specs.declared.error.Why.TheVariants.{OutOfRange, Repeated}
 use Rattle.tempest_input.specs.Heads.{head_of}
-use Rattle.tempest_input.specs.Layout.{at_end, body_as, body_in, choice_as, choice_in, field_as, field_in, is_end, laid_out, misfit, next_node, number_in, sections_as, sections_below}
+use Rattle.tempest_input.specs.Layout.{behind, body_as, body_in, choice_as, choice_in, ending_in, ends_so, field_as, field_in, is_end, laid_out, misfit, next_node, number_in, sections_as, sections_below}
 use Rattle.tempest_input.specs.Numbers.{budget_or, gathered, is_budget, is_within, is_given, has_program, node_in, nodes_of, sizes_of, unless, word_in, words_of}
-use Rattle.tempest_input.specs.Settings.{in_line, in_program, settings_in, layout_of, parsed, program_in, settings_of}
-use Rattle.tempest_input.proofs.Parts.{err-same}
+use Rattle.tempest_input.specs.Settings.{in_line, in_program, settings_and_report, layout_of, parsed, program_in, settings_of}
+use Rattle.tempest_input.proofs.Parts.{behind_all, err-same}
 
 -- this is not the error
 abbrev pub Never : {A E : Type 0} → E → Result A E → Type 0
@@ -110,33 +112,38 @@ sections-never (suc most) all lines = go (next_node lines) (λ rest. sections-ne
     go None n = never-ok _ _
     go (Some node) n = never-then _ _ _ (never-then _ _ _ (body-never all _) (λ b. never-ok _ _)) (λ s. never-then _ _ _ (n s.1) (λ r. never-ok _ _))
 
-at_end-never : (all : ℕ) (rest : List Line) (c : Choice) → Never Memory (at_end all rest c)
-at_end-never all [] c h = absurd (cc h)
-at_end-never all (l ∷ ls) c h = misfit-never all (l ∷ ls) h
-
 choice-never : (version all : ℕ) (lines : List Line) → Never Memory (choice_in version all lines)
 unfolding choice_in
 choice-never version all [] = never-ok _ _
 choice-never version all (l ∷ ls) = go (head_of l.tokens)
   where
-    shipped : (which : Shipped) (b : Bool) → Never Memory (cond b (at_end all ls (choices.Shipped l.number which)) (Err (misfit all (l ∷ ls))))
-    shipped which true = at_end-never all ls _
-    shipped which false = misfit-never all (l ∷ ls)
+    shipped : (which : Shipped) (b : Bool) → Never {A = Choice × List Line} Memory (cond b (Ok (choices.Shipped l.number which, ls)) (Ok (choices.Default, l ∷ ls)))
+    shipped which true = never-ok _ _
+    shipped which false = never-ok _ _
 
     go : (h : Head) → Never Memory (choice_as version all h l ls)
-    go heads.Protocol = never-then _ _ _ (body-never all ls) (λ b. at_end-never all b.1 _)
+    go heads.Protocol = never-then _ _ _ (body-never all ls) (λ b. never-ok _ _)
     go (heads.Shipped which) = shipped which (version == 2)
-    go _ = misfit-never all (l ∷ ls)
+    go _ = never-ok _ _
 
-pub laid_out-never : (all : ℕ) (lines : List Line) → Never Memory (laid_out all lines)
+ending-never : (ending : Ending) (all : ℕ) (lines : List Line) → Never Memory (ending_in ending all lines)
+unfolding ending_in
+ending-never ending all lines = go (ends_so ending lines)
+  where
+    go : (b : Bool) → Never {A = Body} Memory (cond b (Ok (behind_all all (behind lines))) (Err (misfit all lines)))
+    go true = never-ok _ _
+    go false = misfit-never all lines
+
+pub laid_out-never : (ending : Ending) (all : ℕ) (lines : List Line) → Never Memory (laid_out ending all lines)
 unfolding laid_out
-laid_out-never all lines =
+laid_out-never ending all lines =
     never-then _ _ _ (field-never Version all lines) (λ v.
     never-then _ _ _ (field-never Nodes all v.1) (λ n.
     never-then _ _ _ (field-never Words all n.1) (λ w.
     never-then _ _ _ (field-never Blocks all w.1) (λ b.
     never-then _ _ _ (sections-never _ all _) (λ s.
-    never-then _ _ _ (choice-never v.0.value all s.1) (λ c. never-ok _ _))))))
+    never-then _ _ _ (choice-never v.0.value all s.1) (λ c.
+    never-then _ _ _ (ending-never ending all c.1) (λ report. never-ok _ _)))))))
 
 -- ---- numbers
 
@@ -231,9 +238,9 @@ settings-never l =
     never-then _ _ _ (nodes-never sizes.nodes l.programs) (λ nodes.
     never-then _ _ _ (parsed-never l.version.value l.programs) (λ programs. never-ok _ _))))
 
-pub layout-never : (text : List ℕ) → Never Memory (layout_of text)
+pub layout-never : (ending : Ending) (text : List ℕ) → Never Memory (layout_of ending text)
 unfolding layout_of
-layout-never text = never-then _ _ _ (in_line-never (lexed text) (lexed-never text)) (λ found. laid_out-never found.all found.list)
+layout-never ending text = never-then _ _ _ (in_line-never (lexed text) (lexed-never text)) (λ found. laid_out-never ending found.all found.list)
 
-pub input-never : (text : List ℕ) → Never Memory (settings_in text)
-input-never text = never-then _ _ _ (layout-never text) (λ l. settings-never l)
+pub input-never : (ending : Ending) (text : List ℕ) → Never Memory (settings_and_report ending text)
+input-never ending text = never-then _ _ _ (layout-never ending text) (λ l. never-then _ _ _ (settings-never l.0) (λ s. never-ok _ _))

@@ -16,9 +16,12 @@ use Rattle.tempest_input.specs.declared.layout.Body.{Body}
 use Rattle.tempest_input.specs.declared.layout.Section.{Section}
 use Rattle.tempest_input.specs.declared.layout.Choice.{Choice}
 use Rattle.tempest_input.specs.declared.layout.Choice.TheVariants as choices
+use Rattle.tempest_input.specs.declared.layout.Ending.{Ending}
+use Rattle.tempest_input.specs.declared.layout.Ending.TheVariants as endings
+use Rattle.tempest_input.specs.declared.error.InputError.{InputError}
 use Rattle.tempest_input.specs.Heads.{head_of}
-use Rattle.tempest_input.specs.Layout.{at_end, body_as, body_in, budget_as, budget_in, choice_as, choice_in, field_as, field_in, init_in, inits_in, is_end, is_field, misfit, next_node, node_in, number_in, section_in, sections_as, sections_below, sections_in, with_init, with_line}
-use Rattle.tempest_input.specs.Laws.{IsBody, IsBudget, IsChoice, IsField, IsInits, IsSection, IsSections}
+use Rattle.tempest_input.specs.Layout.{body_as, body_in, budget_as, budget_in, choice_as, choice_in, ending_in, field_as, field_in, init_in, inits_in, is_end, is_field, is_report, misfit, next_node, node_in, number_in, section_in, sections_as, sections_below, sections_in, with_init, with_line}
+use Rattle.tempest_input.specs.Laws.{IsBody, IsBudget, IsChoice, IsEnding, IsField, IsInits, IsSection, IsSections}
 
 pub bind-ok : {A B E : Type 0} (r : Result A E) (f : A → Result B E) (y : B) → (r >>= f) ≡ Ok y → (x : A) × (r ≡ Ok x) × (f x ≡ Ok y)
 bind-ok (Ok x) f y e = (x, refl, e)
@@ -71,6 +74,7 @@ number-says f (heads.Program k) n e = absurd (cc e)
 number-says f heads.Protocol n e = absurd (cc e)
 number-says f (heads.Shipped s) n e = absurd (cc e)
 number-says f heads.End n e = absurd (cc e)
+number-says f heads.Report n e = absurd (cc e)
 number-says f heads.Other n e = absurd (cc e)
 
 end-says : (h : Head) → is_end h ≡ true → h ≡ heads.End
@@ -93,6 +97,7 @@ init-says line (heads.Program k) i e = absurd (cc e)
 init-says line heads.Protocol i e = absurd (cc e)
 init-says line (heads.Shipped s) i e = absurd (cc e)
 init-says line heads.End i e = absurd (cc e)
+init-says line heads.Report i e = absurd (cc e)
 init-says line heads.Other i e = absurd (cc e)
 
 pub node-says : (h : Head) (n : ℕ) → node_in h ≡ Some n → h ≡ heads.Program n
@@ -284,35 +289,103 @@ all-sections-on all ss part rest h n = sections-on all (length (part ++ rest)) s
 
 -- ---- the protocol
 
-at_end-ok : (all : ℕ) (rest : List Line) (choice c : Choice) → at_end all rest choice ≡ Ok c → (rest ≡ []) × (choice ≡ c)
-at_end-ok all [] choice c e = (refl, cc e)
-at_end-ok all (l ∷ ls) choice c e = absurd (cc e)
+-- where no protocol is chosen, the next line does not begin a choice
+abbrev pub chooses : ℕ → Head → Bool
+chooses version heads.Protocol = true
+chooses version (heads.Shipped which) = version == 2
+chooses version _ = false
 
-pub choice-back : (version all : ℕ) (lines : List Line) (c : Choice) → choice_in version all lines ≡ Ok c → IsChoice version c lines
+abbrev pub NoChoice : ℕ → Choice → List Line → Type 0
+NoChoice version choices.Default rest = chooses version (starts rest) ≡ false
+NoChoice version (choices.Own line body) rest = Unit {0}
+NoChoice version (choices.Shipped line which) rest = Unit {0}
+
+abbrev pub ChoiceOf : ℕ → List Line → Choice × List Line → Type 0
+ChoiceOf version lines c = (part : List Line) × (lines ≡ part ++ c.1) × IsChoice version c.0 part × NoChoice version c.0 c.1
+
+pub choice-back : (version all : ℕ) (lines : List Line) (c : Choice × List Line) → choice_in version all lines ≡ Ok c → ChoiceOf version lines c
 unfolding choice_in
 choice-back version all [] c e =
-    let same : choices.Default ≡ c = cc e in
-    subst (λ c. IsChoice version c []) same refl
+    let same : ◌≡◌ {A = Choice × List Line} (choices.Default, []) c = cc e in
+    subst (ChoiceOf version []) same ([], refl, refl, refl)
 choice-back version all (l ∷ ls) c e = go (head_of l.tokens) refl e
   where
-    shipped : (which : Shipped) → head_of l.tokens ≡ heads.Shipped which → (v : Bool) → (version == 2) ≡ v → cond v (at_end all ls (choices.Shipped l.number which)) (Err (misfit all (l ∷ ls))) ≡ Ok c → IsChoice version c (l ∷ ls)
+    none : chooses version (head_of l.tokens) ≡ false → ◌≡◌ {A = Result (Choice × List Line) InputError} (Ok (choices.Default, l ∷ ls)) (Ok c) → ChoiceOf version (l ∷ ls) c
+    none fails f = subst (ChoiceOf version (l ∷ ls)) (ok-same (choices.Default, l ∷ ls) c f) ([], refl, refl, fails)
+
+    shipped : (which : Shipped) → head_of l.tokens ≡ heads.Shipped which → (v : Bool) → (version == 2) ≡ v
+        → ◌≡◌ {A = Result (Choice × List Line) InputError} (cond v (Ok (choices.Shipped l.number which, ls)) (Ok (choices.Default, l ∷ ls))) (Ok c) → ChoiceOf version (l ∷ ls) c
     shipped which is true two f =
-        let p = at_end-ok all ls (choices.Shipped l.number which) c f in
-        subst (λ c. IsChoice version c (l ∷ ls)) p.1 (l, ap (λ z. l ∷ z) p.0, eqb-true version 2 two, is, refl)
-    shipped which is false two f = absurd (cc f)
+        subst (ChoiceOf version (l ∷ ls)) (ok-same (choices.Shipped l.number which, ls) c f) (l ∷ [], refl, (l, refl, eqb-true version 2 two, is, refl), tt)
+    shipped which is false two f = none (ap (chooses version) is ∙ two) f
 
-    go : (h : Head) → head_of l.tokens ≡ h → choice_as version all h l ls ≡ Ok c → IsChoice version c (l ∷ ls)
+    go : (h : Head) → head_of l.tokens ≡ h → choice_as version all h l ls ≡ Ok c → ChoiceOf version (l ∷ ls) c
     go heads.Protocol is f =
-        let p = bind-ok (body_in all ls) (λ b. at_end all b.1 (choices.Own l.number b.0)) c f in
-        let q = at_end-ok all p.0.1 (choices.Own l.number p.0.0) c p.2 in
+        let p = bind-ok (body_in all ls) (λ b. Ok (choices.Own l.number b.0, b.1)) c f in
         let b = body-back all ls p.0 p.1 in
-        subst (λ c. IsChoice version c (l ∷ ls)) q.1
-        (record { opening = l; closing = b.0; lines_are = ap (λ z. l ∷ z) (b.1 ∙ ap (λ z. p.0.0.lines ++ b.0 ∷ z) q.0); opens = is; line_is = refl; body_is = b.2; closes = b.3; last_is = b.4 })
+        subst (ChoiceOf version (l ∷ ls)) (ok-same (choices.Own l.number p.0.0, p.0.1) c p.2) (
+          l ∷ (p.0.0.lines ++ b.0 ∷ []),
+          ap (λ z. l ∷ z) (b.1 ∙ sym (append_assoc p.0.0.lines (b.0 ∷ []) p.0.1)),
+          record { opening = l; closing = b.0; lines_are = refl; opens = is; line_is = refl; body_is = b.2; closes = b.3; last_is = b.4 },
+          tt,
+        )
     go (heads.Shipped which) is f = shipped which is (version == 2) refl f
-    go _ is f = absurd (cc f)
+    go _ is f = none (ap (chooses version) is) f
 
-pub choice-on : (version all : ℕ) (lines : List Line) (c : Choice) → IsChoice version c lines → choice_in version all lines ≡ Ok c
+chosen-none : (version all : ℕ) (rest : List Line) → chooses version (starts rest) ≡ false → choice_in version all rest ≡ Ok (choices.Default, rest)
 unfolding choice_in
-choice-on version all lines choices.Default h = rw h refl
-choice-on version all lines (choices.Own line body) h = rw (h.lines_are, h.opens, body-on all body.lines [] h.closing h.body_is h.closes) (λ j. Ok (choices.Own (h.line_is j) (record { lines = body.lines; end = h.last_is j })))
-choice-on version all lines (choices.Shipped line which) h = rw (h.1, h.3, h.2) (ap (λ n. Ok (choices.Shipped n which)) h.4)
+chosen-none version all [] fails = refl
+chosen-none version all (l ∷ ls) fails = go (head_of l.tokens) fails
+  where
+    go : (h : Head) → chooses version h ≡ false → choice_as version all h l ls ≡ Ok (choices.Default, l ∷ ls)
+    go heads.Protocol fails = absurd (cc fails)
+    go (heads.Shipped which) fails = ap (λ v. cond v (Ok (choices.Shipped l.number which, ls)) (Ok (choices.Default, l ∷ ls))) fails
+    go _ fails = refl
+
+pub choice-on : (version all : ℕ) (part rest : List Line) (c : Choice) → IsChoice version c part → NoChoice version c rest → choice_in version all (part ++ rest) ≡ Ok (c, rest)
+unfolding choice_in
+choice-on version all part rest choices.Default h fails = ap (λ z. choice_in version all (z ++ rest)) h ∙ chosen-none version all rest fails
+choice-on version all part rest (choices.Own line body) h fails =
+    let at : part ++ rest ≡ h.opening ∷ (body.lines ++ h.closing ∷ rest) = ap (λ z. z ++ rest) h.lines_are ∙ ap (λ z. h.opening ∷ z) (append_assoc body.lines (h.closing ∷ []) rest) in
+    rw (at, h.opens, body-on all body.lines rest h.closing h.body_is h.closes) (λ j. Ok (choices.Own (h.line_is j) (record { lines = body.lines; end = h.last_is j }), rest))
+choice-on version all part rest (choices.Shipped line which) h fails = rw (h.1, h.3, h.2) (ap (λ n. Ok (choices.Shipped n which, rest)) h.4)
+
+-- ---- the end
+
+report-says : (h : Head) → is_report h ≡ true → h ≡ heads.Report
+report-says heads.Report e = refl
+report-says _ e = absurd (cc e)
+
+abbrev pub behind_all : ℕ → List Line → Body
+behind_all all lines = record { lines = lines; end = all + 1 }
+
+abbrev pub EndingOf : Ending → ℕ → List Line → Body → Type 0
+EndingOf ending all lines report = IsEnding ending report lines × (report.end ≡ all + 1)
+
+ended : (all : ℕ) (lines : List Line) (b : Body) → behind_all all lines ≡ b → (b.lines ≡ lines) × (b.end ≡ all + 1)
+ended all lines b e = (sym (ap (λ (z : Body). z.lines) e), sym (ap (λ (z : Body). z.end) e))
+
+pub ending-back : (ending : Ending) (all : ℕ) (lines : List Line) (b : Body) → ending_in ending all lines ≡ Ok b → EndingOf ending all lines b
+unfolding ending_in
+ending-back endings.Text all [] b e =
+    let p = ended all [] b (ok-same (behind_all all []) b e) in
+    ((refl, p.0), p.1)
+ending-back endings.Text all (l ∷ ls) b e = absurd (cc e)
+ending-back endings.Report all [] b e = absurd (cc e)
+ending-back endings.Report all (l ∷ ls) b e = go (is_report (head_of l.tokens)) refl e
+  where
+    go : (v : Bool) → is_report (head_of l.tokens) ≡ v → cond v (Ok (behind_all all ls)) (Err (misfit all (l ∷ ls))) ≡ Ok b → EndingOf endings.Report all (l ∷ ls) b
+    go true is f =
+        let p = ended all ls b (ok-same (behind_all all ls) b f) in
+        ((l, ap (λ z. l ∷ z) (sym p.0), report-says (head_of l.tokens) is), p.1)
+    go false is f = absurd (cc f)
+
+body-is : (b : Body) (lines : List Line) (end : ℕ) → b.lines ≡ lines → b.end ≡ end → record { lines = lines; end = end } ≡ b
+body-is b lines end is last = λ j. record { lines = sym is j; end = sym last j }
+
+pub ending-on : (ending : Ending) (all : ℕ) (lines : List Line) (b : Body) → EndingOf ending all lines b → ending_in ending all lines ≡ Ok b
+unfolding ending_in
+ending-on endings.Text all lines b h = ap (ending_in endings.Text all) h.0.0 ∙ ap Ok (body-is b [] (all + 1) h.0.1 h.1)
+ending-on endings.Report all lines b h =
+    ap (ending_in endings.Report all) h.0.1 ∙ ap (λ x. cond (is_report x) (Ok (behind_all all b.lines)) (Err (misfit all (h.0.0 ∷ b.lines)))) h.0.2
+    ∙ ap Ok (body-is b b.lines (all + 1) refl h.1)

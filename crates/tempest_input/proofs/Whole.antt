@@ -1,5 +1,5 @@
 -- A layout is found exactly where its lines are written.
-use Rattle.std.proofs.Common.{◌≡◌, ℕ, ◌≤◌, List, [], ◌∷◌, ◌++◌, Option, Some, None, Result, Ok, refl, sym, ap, subst, ◌∙◌, arith}
+use Rattle.std.proofs.Common.{◌≡◌, ℕ, ◌≤◌, List, [], ◌∷◌, ◌++◌, Option, Some, None, Result, Ok, refl, sym, ap, subst, false, ◌∙◌, arith}
 use Rattle.tw_base.specs.Answers.{◌>>=◌}
 use Rattle.tw_lex.specs.declared.token.Line.{Line}
 use Rattle.tempest_input.specs.declared.head.Head.{Head}
@@ -10,12 +10,15 @@ use Rattle.tempest_input.specs.declared.layout.Init.{Init}
 use Rattle.tempest_input.specs.declared.layout.Section.{Section}
 use Rattle.tempest_input.specs.declared.layout.Choice.{Choice}
 use Rattle.tempest_input.specs.declared.layout.Choice.TheVariants as choices
+use Rattle.tempest_input.specs.declared.layout.Body.{Body}
+use Rattle.tempest_input.specs.declared.layout.Ending.{Ending}
+use Rattle.tempest_input.specs.declared.layout.Ending.TheVariants as endings
 use Rattle.tempest_input.specs.declared.layout.Layout.{Layout}
 use Rattle.tempest_input.specs.declared.error.InputError.{InputError}
 use Rattle.tempest_input.specs.Heads.{head_of}
-use Rattle.tempest_input.specs.Layout.{budget_in, choice_in, field_in, init_in, inits_in, laid_out, next_node, node_in, number_in, sections_in}
-use Rattle.tempest_input.specs.Laws.{IsBudget, IsChoice, IsField, IsInits, IsLaidOut, IsSections, LayoutIsReadBothWays}
-use Rattle.tempest_input.proofs.Parts.{NoBudget, NoInit, all-sections-on, bind-ok, budget-back, budget-on, choice-back, choice-on, field-back, field-on, inits-back, inits-on, ok-same, sections-back, starts}
+use Rattle.tempest_input.specs.Layout.{budget_in, choice_in, ending_in, field_in, init_in, inits_in, laid_out, next_node, node_in, number_in, sections_in}
+use Rattle.tempest_input.specs.Laws.{IsBudget, IsChoice, IsEnding, IsField, IsInits, IsLaidOut, IsSections, LayoutIsReadBothWays}
+use Rattle.tempest_input.proofs.Parts.{EndingOf, NoBudget, NoChoice, NoInit, all-sections-on, bind-ok, budget-back, budget-on, choice-back, choice-on, chooses, ending-back, ending-on, field-back, field-on, inits-back, inits-on, ok-same, sections-back, starts}
 
 -- all before the protocol, and that each part goes as far as it can
 pub record IsParted (lines rest : List Line) (l : Layout) : Type 0 where
@@ -41,9 +44,14 @@ pub record IsParted (lines rest : List Line) (l : Layout) : Type 0 where
 abbrev pub with_choice : Layout → Choice → Layout
 with_choice l c = record { version = l.version; nodes = l.nodes; words = l.words; blocks = l.blocks; budget = l.budget; inits = l.inits; programs = l.programs; protocol = c }
 
-pub parted-on : (all : ℕ) (lines rest : List Line) (l : Layout) → IsParted lines rest l → laid_out all lines ≡ (choice_in l.version.value all rest >>= λ c. Ok (with_choice l c))
+-- the end of a layout behind its protocol
+abbrev pub finished : Ending → ℕ → Layout → Choice × List Line → Result (Layout × Body) InputError
+finished ending all l c = ending_in ending all c.1 >>= λ report. Ok (with_choice l c.0, report)
+
+pub parted-on : (ending : Ending) (all : ℕ) (lines rest : List Line) (l : Layout) → IsParted lines rest l
+    → laid_out ending all lines ≡ (choice_in l.version.value all rest >>= λ c. finished ending all l c)
 unfolding laid_out
-parted-on all lines rest l h =
+parted-on ending all lines rest l h =
     let tail : List Line = h.budget ++ (h.inits ++ (h.programs ++ rest)) in
     let v = field-on Version all h.version (h.nodes ∷ h.words ∷ h.blocks ∷ tail) l.version h.version_is in
     let n = field-on Nodes all h.nodes (h.words ∷ h.blocks ∷ tail) l.nodes h.nodes_is in
@@ -102,8 +110,9 @@ parted-back all lines v n w b s c ve ne we be se =
       no_node = p.3;
     }
 
-whole : (lines rest : List Line) (l : Layout) → IsParted lines rest l → IsChoice l.version.value l.protocol rest → IsLaidOut lines l
-whole lines rest l h k = record {
+whole : (ending : Ending) (all : ℕ) (lines part behind : List Line) (l : Layout) (report : Body) → IsParted lines (part ++ behind) l → IsChoice l.version.value l.protocol part
+    → EndingOf ending all behind report → IsLaidOut ending all lines l report
+whole ending all lines part behind l report h k e = record {
   version = h.version;
   nodes = h.nodes;
   words = h.words;
@@ -111,7 +120,8 @@ whole lines rest l h k = record {
   budget = h.budget;
   inits = h.inits;
   programs = h.programs;
-  protocol = rest;
+  protocol = part;
+  behind = behind;
   lines_are = h.lines_are;
   version_is = h.version_is;
   nodes_is = h.nodes_is;
@@ -121,42 +131,55 @@ whole lines rest l h k = record {
   inits_are = h.inits_are;
   programs_are = h.programs_are;
   protocol_is = k;
+  behind_is = e.0;
+  end_is = e.1;
 }
 
 -- ---- the steps of the whole
 
-abbrev pub protocol_in : ℕ → Numbered × List Line → Numbered × List Line → Numbered × List Line → Numbered × List Line → List Section × List Line → Result Layout InputError
-protocol_in all v n w b s = choice_in v.0.value all s.1 >>= λ c. Ok (laid v.0 n.0 w.0 b s.0 c)
+abbrev pub report_in : Ending → ℕ → Numbered × List Line → Numbered × List Line → Numbered × List Line → Numbered × List Line → List Section × List Line → Choice × List Line → Result (Layout × Body) InputError
+report_in ending all v n w b s c = ending_in ending all c.1 >>= λ report. Ok (laid v.0 n.0 w.0 b s.0 c.0, report)
 
-abbrev pub programs_in : ℕ → Numbered × List Line → Numbered × List Line → Numbered × List Line → Numbered × List Line → Result Layout InputError
-programs_in all v n w b = sections_in all (after_inits b.1) >>= λ s. protocol_in all v n w b s
+abbrev pub protocol_in : Ending → ℕ → Numbered × List Line → Numbered × List Line → Numbered × List Line → Numbered × List Line → List Section × List Line → Result (Layout × Body) InputError
+protocol_in ending all v n w b s = choice_in v.0.value all s.1 >>= λ c. report_in ending all v n w b s c
 
-abbrev pub blocks_in : ℕ → Numbered × List Line → Numbered × List Line → Numbered × List Line → Result Layout InputError
-blocks_in all v n w = field_in Blocks all w.1 >>= λ b. programs_in all v n w b
+abbrev pub programs_in : Ending → ℕ → Numbered × List Line → Numbered × List Line → Numbered × List Line → Numbered × List Line → Result (Layout × Body) InputError
+programs_in ending all v n w b = sections_in all (after_inits b.1) >>= λ s. protocol_in ending all v n w b s
 
-abbrev pub words_in : ℕ → Numbered × List Line → Numbered × List Line → Result Layout InputError
-words_in all v n = field_in Words all n.1 >>= λ w. blocks_in all v n w
+abbrev pub blocks_in : Ending → ℕ → Numbered × List Line → Numbered × List Line → Numbered × List Line → Result (Layout × Body) InputError
+blocks_in ending all v n w = field_in Blocks all w.1 >>= λ b. programs_in ending all v n w b
 
-abbrev pub nodes_in : ℕ → Numbered × List Line → Result Layout InputError
-nodes_in all v = field_in Nodes all v.1 >>= λ n. words_in all v n
+abbrev pub words_in : Ending → ℕ → Numbered × List Line → Numbered × List Line → Result (Layout × Body) InputError
+words_in ending all v n = field_in Words all n.1 >>= λ w. blocks_in ending all v n w
 
-pub in-steps : (all : ℕ) (lines : List Line) → laid_out all lines ≡ (field_in Version all lines >>= λ v. nodes_in all v)
+abbrev pub nodes_in : Ending → ℕ → Numbered × List Line → Result (Layout × Body) InputError
+nodes_in ending all v = field_in Nodes all v.1 >>= λ n. words_in ending all v n
+
+pub in-steps : (ending : Ending) (all : ℕ) (lines : List Line) → laid_out ending all lines ≡ (field_in Version all lines >>= λ v. nodes_in ending all v)
 unfolding laid_out
-in-steps all lines = refl
+in-steps ending all lines = refl
 
-back-last : (all : ℕ) (lines : List Line) (v n w b : Numbered × List Line) (s : List Section × List Line) (l : Layout) → ((c : Choice) → IsParted lines s.1 (laid v.0 n.0 w.0 b s.0 c)) → protocol_in all v n w b s ≡ Ok l → IsLaidOut lines l
-back-last all lines v n w b s l parts e =
-    let c = bind-ok (choice_in v.0.value all s.1) (λ c. Ok (laid v.0 n.0 w.0 b s.0 c)) l e in
-    subst (IsLaidOut lines) (ok-same (laid v.0 n.0 w.0 b s.0 c.0) l c.2) (whole lines s.1 (laid v.0 n.0 w.0 b s.0 c.0) (parts c.0) (choice-back v.0.value all s.1 c.0 c.1))
+abbrev LaidOut : Ending → ℕ → List Line → Layout × Body → Type 0
+LaidOut ending all lines l = IsLaidOut ending all lines l.0 l.1
 
-back : (all : ℕ) (lines : List Line) (l : Layout) → laid_out all lines ≡ Ok l → IsLaidOut lines l
-back all lines l e =
-    let v = bind-ok (field_in Version all lines) (λ v. nodes_in all v) l (sym (in-steps all lines) ∙ e) in
-    let n = bind-ok (field_in Nodes all v.0.1) (λ n. words_in all v.0 n) l v.2 in
-    let w = bind-ok (field_in Words all n.0.1) (λ w. blocks_in all v.0 n.0 w) l n.2 in
-    let b = bind-ok (field_in Blocks all w.0.1) (λ b. programs_in all v.0 n.0 w.0 b) l w.2 in
-    let s = bind-ok (sections_in all (after_inits b.0.1)) (λ s. protocol_in all v.0 n.0 w.0 b.0 s) l b.2 in
-    back-last all lines v.0 n.0 w.0 b.0 s.0 l (λ c. parted-back all lines v.0 n.0 w.0 b.0 s.0 c v.1 n.1 w.1 b.1 s.1) s.2
+back-last : (ending : Ending) (all : ℕ) (lines : List Line) (v n w b : Numbered × List Line) (s : List Section × List Line) (l : Layout × Body) → ((c : Choice) → IsParted lines s.1 (laid v.0 n.0 w.0 b s.0 c))
+    → protocol_in ending all v n w b s ≡ Ok l → LaidOut ending all lines l
+back-last ending all lines v n w b s l parts e =
+    let c = bind-ok (choice_in v.0.value all s.1) (λ c. report_in ending all v n w b s c) l e in
+    let r = bind-ok (ending_in ending all c.0.1) (λ report. Ok (laid v.0 n.0 w.0 b s.0 c.0.0, report)) l c.2 in
+    let k = choice-back v.0.value all s.1 c.0 c.1 in
+    let parted : IsParted lines (k.0 ++ c.0.1) (laid v.0 n.0 w.0 b s.0 c.0.0) = subst (λ z. IsParted lines z (laid v.0 n.0 w.0 b s.0 c.0.0)) k.1 (parts c.0.0) in
+    subst (LaidOut ending all lines) (ok-same (laid v.0 n.0 w.0 b s.0 c.0.0, r.0) l r.2)
+    (whole ending all lines k.0 c.0.1 (laid v.0 n.0 w.0 b s.0 c.0.0) r.0 parted k.2 (ending-back ending all c.0.1 r.0 r.1))
+
+back : (ending : Ending) (all : ℕ) (lines : List Line) (l : Layout × Body) → laid_out ending all lines ≡ Ok l → LaidOut ending all lines l
+back ending all lines l e =
+    let v = bind-ok (field_in Version all lines) (λ v. nodes_in ending all v) l (sym (in-steps ending all lines) ∙ e) in
+    let n = bind-ok (field_in Nodes all v.0.1) (λ n. words_in ending all v.0 n) l v.2 in
+    let w = bind-ok (field_in Words all n.0.1) (λ w. blocks_in ending all v.0 n.0 w) l n.2 in
+    let b = bind-ok (field_in Blocks all w.0.1) (λ b. programs_in ending all v.0 n.0 w.0 b) l w.2 in
+    let s = bind-ok (sections_in all (after_inits b.0.1)) (λ s. protocol_in ending all v.0 n.0 w.0 b.0 s) l b.2 in
+    back-last ending all lines v.0 n.0 w.0 b.0 s.0 l (λ c. parted-back all lines v.0 n.0 w.0 b.0 s.0 c v.1 n.1 w.1 b.1 s.1) s.2
 
 -- ---- each part goes as far as it can
 
@@ -183,10 +206,23 @@ no_node (l ∷ ls) is = go (head_of l.tokens) is
     go (heads.Program n) is = absurd (omega (arith, is))
     go _ is = refl
 
-choice-rank : (version : ℕ) (c : Choice) (lines : List Line) → IsChoice version c lines → rank (starts lines) ≡ 3
-choice-rank version choices.Default lines h = ap (λ z. rank (starts z)) h
-choice-rank version (choices.Own line body) lines h = ap (λ z. rank (starts z)) h.lines_are ∙ ap rank h.opens
-choice-rank version (choices.Shipped line which) lines h = ap (λ z. rank (starts z)) h.1 ∙ ap rank h.3
+ending-rank : (ending : Ending) (report : Body) (lines : List Line) → IsEnding ending report lines → rank (starts lines) ≡ 3
+ending-rank endings.Text report lines h = ap (λ z. rank (starts z)) h.0
+ending-rank endings.Report report lines h = ap (λ z. rank (starts z)) h.1 ∙ ap rank h.2
+
+choice-rank : (version : ℕ) (c : Choice) (part rest : List Line) → IsChoice version c part → rank (starts rest) ≡ 3 → rank (starts (part ++ rest)) ≡ 3
+choice-rank version choices.Default part rest h is = ap (λ z. rank (starts (z ++ rest))) h ∙ is
+choice-rank version (choices.Own line body) part rest h is = ap (λ z. rank (starts (z ++ rest))) h.lines_are ∙ ap rank h.opens
+choice-rank version (choices.Shipped line which) part rest h is = ap (λ z. rank (starts (z ++ rest))) h.1 ∙ ap rank h.3
+
+ending-chooses : (version : ℕ) (ending : Ending) (report : Body) (lines : List Line) → IsEnding ending report lines → chooses version (starts lines) ≡ false
+ending-chooses version endings.Text report lines h = ap (λ z. chooses version (starts z)) h.0
+ending-chooses version endings.Report report lines h = ap (λ z. chooses version (starts z)) h.1 ∙ ap (chooses version) h.2
+
+no_choice : (version : ℕ) (c : Choice) (rest : List Line) → chooses version (starts rest) ≡ false → NoChoice version c rest
+no_choice version choices.Default rest is = is
+no_choice version (choices.Own line body) rest is = tt
+no_choice version (choices.Shipped line which) rest is = tt
 
 sections-rank : (ss : List Section) (part rest : List Line) → IsSections ss part → rank (starts rest) ≡ 3 → 2 ≤ rank (starts (part ++ rest))
 sections-rank [] part rest h is =
@@ -208,11 +244,12 @@ no_budget : (b : Option Numbered) (rest : List Line) → 1 ≤ rank (starts rest
 no_budget None rest le = no_number (starts rest) le
 no_budget (Some n) rest le = tt
 
-pub parted : (lines : List Line) (l : Layout) (h : IsLaidOut lines l) → IsParted lines h.protocol l
-parted lines l h =
-    let three = choice-rank l.version.value l.protocol h.protocol h.protocol_is in
-    let two = sections-rank l.programs h.programs h.protocol h.programs_are three in
-    let one = inits-rank l.inits h.inits (h.programs ++ h.protocol) h.inits_are two in
+pub parted : (ending : Ending) (all : ℕ) (lines : List Line) (l : Layout) (report : Body) (h : IsLaidOut ending all lines l report) → IsParted lines (h.protocol ++ h.behind) l
+parted ending all lines l report h =
+    let rest : List Line = h.protocol ++ h.behind in
+    let three = choice-rank l.version.value l.protocol h.protocol h.behind h.protocol_is (ending-rank ending report h.behind h.behind_is) in
+    let two = sections-rank l.programs h.programs rest h.programs_are three in
+    let one = inits-rank l.inits h.inits (h.programs ++ rest) h.inits_are two in
     record {
       version = h.version;
       nodes = h.nodes;
@@ -229,14 +266,17 @@ parted lines l h =
       budget_is = h.budget_is;
       inits_are = h.inits_are;
       programs_are = h.programs_are;
-      no_budget = no_budget l.budget (h.inits ++ (h.programs ++ h.protocol)) one;
-      no_init = no_init (starts (h.programs ++ h.protocol)) two;
-      no_node = no_node h.protocol three;
+      no_budget = no_budget l.budget (h.inits ++ (h.programs ++ rest)) one;
+      no_init = no_init (starts (h.programs ++ rest)) two;
+      no_node = no_node rest three;
     }
 
-on : (all : ℕ) (lines : List Line) (l : Layout) → IsLaidOut lines l → laid_out all lines ≡ Ok l
-on all lines l h =
-    parted-on all lines h.protocol l (parted lines l h) ∙ ap (λ r. r >>= λ c. Ok (with_choice l c)) (choice-on l.version.value all h.protocol l.protocol h.protocol_is)
+on : (ending : Ending) (all : ℕ) (lines : List Line) (l : Layout) (report : Body) → IsLaidOut ending all lines l report → laid_out ending all lines ≡ Ok (l, report)
+on ending all lines l report h =
+    let none = no_choice l.version.value l.protocol h.behind (ending-chooses l.version.value ending report h.behind h.behind_is) in
+    parted-on ending all lines (h.protocol ++ h.behind) l (parted ending all lines l report h)
+    ∙ ap (λ r. r >>= λ c. finished ending all l c) (choice-on l.version.value all h.protocol h.behind l.protocol h.protocol_is none)
+    ∙ ap (λ r. r >>= λ b. Ok (with_choice l l.protocol, b)) (ending-on ending all h.behind report (h.behind_is, h.end_is))
 
 pub both_ways : LayoutIsReadBothWays
-both_ways all lines l = (back all lines l, on all lines l)
+both_ways ending all lines l report = (back ending all lines (l, report), on ending all lines l report)

@@ -1,5 +1,5 @@
 -- The lines of the layout: what a line outside of the sections says.
-use Rattle.std.specs.Prelude.{ℕ, if◌then◌else◌, codes, List, [], ◌∷◌}
+use Rattle.std.specs.Prelude.{ℕ, if◌then◌else◌, codes, List, [], ◌∷◌, Option, Some, None}
 use Rattle.std.specs.Str.{bytes_eq}
 use Rattle.tw_lex.specs.declared.token.What.{What}
 use Rattle.tw_lex.specs.declared.token.What.TheVariants as whats
@@ -7,13 +7,15 @@ use Rattle.tw_lex.specs.declared.token.Token.{Token}
 use Rattle.tempest_input.specs.declared.head.Head.{Head}
 use Rattle.tempest_input.specs.declared.head.Head.TheVariants as heads
 use Rattle.tempest_input.specs.declared.head.Field.TheVariants.{Version, Nodes, Words, Blocks, Budget}
-use Rattle.tempest_input.specs.declared.head.Shipped.TheVariants.{Stache}
+use Rattle.tempest_input.specs.declared.head.Shipped.{Shipped}
+use Rattle.tempest_input.specs.declared.head.Shipped.TheVariants as shipped
 
 -- a line of one word
 abbrev pub word_head : List ℕ → Head
 word_head w =
     if bytes_eq w (codes "protocol") then heads.Protocol else
-    if bytes_eq w (codes "end") then heads.End else heads.Other
+    if bytes_eq w (codes "end") then heads.End else
+    if bytes_eq w (codes "report") then heads.Report else heads.Other
 
 -- a line of a word and a number
 abbrev pub number_head : List ℕ → ℕ → Head
@@ -25,10 +27,20 @@ number_head w n =
     if bytes_eq w (codes "budget") then heads.Number Budget n else
     if bytes_eq w (codes "program") then heads.Program n else heads.Other
 
+-- the protocol of a name
+abbrev pub shipped_as : List ℕ → Option Shipped
+shipped_as name =
+    if bytes_eq name (codes "Stache") then Some shipped.Stache else
+    if bytes_eq name (codes "Stache_D") then Some shipped.StacheD else
+    if bytes_eq name (codes "Stache_L") then Some shipped.StacheL else None
+
+abbrev pub shipped_head : Option Shipped → Head
+shipped_head (Some which) = heads.Shipped which
+shipped_head None = heads.Other
+
 -- a line of two words
 abbrev pub words_head : List ℕ → List ℕ → Head
-words_head w v =
-    if bytes_eq w (codes "shipped") then (if bytes_eq v (codes "Stache") then heads.Shipped Stache else heads.Other) else heads.Other
+words_head w v = if bytes_eq w (codes "shipped") then shipped_head (shipped_as v) else heads.Other
 
 abbrev pub init_head : List ℕ → ℕ → ℕ → Head
 init_head w a v = if bytes_eq w (codes "init") then heads.Init a v else heads.Other

@@ -1,4 +1,4 @@
--- The layout of a text: the lines of the header, the sections of programs, and the protocol.
+-- The layout of a text: the lines of the header, the sections of programs, the protocol, and what ends it.
 use Rattle.std.specs.Prelude.{◌≡◌, ℕ, zero, suc, ◌+◌, ◌==◌, if◌then◌else◌, Bool, true, false, List, [], ◌∷◌, length, Option, Some, None, Result, Ok, Err}
 use Rattle.tw_base.specs.Answers.{◌>>=◌, Fails}
 use Rattle.tw_lex.specs.declared.token.Line.{Line}
@@ -12,6 +12,8 @@ use Rattle.tempest_input.specs.declared.layout.Body.{Body}
 use Rattle.tempest_input.specs.declared.layout.Section.{Section}
 use Rattle.tempest_input.specs.declared.layout.Choice.{Choice}
 use Rattle.tempest_input.specs.declared.layout.Choice.TheVariants as choices
+use Rattle.tempest_input.specs.declared.layout.Ending.{Ending}
+use Rattle.tempest_input.specs.declared.layout.Ending.TheVariants as endings
 use Rattle.tempest_input.specs.declared.layout.Layout.{Layout}
 use Rattle.tempest_input.specs.declared.error.InputError.{InputError}
 use Rattle.tempest_input.specs.declared.error.InputError.TheVariants.{Refused, Memory}
@@ -40,6 +42,10 @@ peeked (l ∷ ls) = Some (l.number, head_of l.tokens)
 abbrev pub is_end : Head → Bool
 is_end heads.End = true
 is_end _ = false
+
+abbrev pub is_report : Head → Bool
+is_report heads.Report = true
+is_report _ = false
 
 -- ---- one field
 
@@ -148,37 +154,52 @@ sections_in all lines = sections_below (length lines) all lines
 
 -- ---- the protocol
 
-abbrev pub at_end : ℕ → List Line → Choice → Result Choice InputError
-at_end all [] choice = Ok choice
-at_end all (l ∷ ls) choice = Err (misfit all (l ∷ ls))
+-- `shipped` is a line of version 2 alone
+abbrev pub choice_as : ℕ → ℕ → Head → Line → List Line → Result (Choice × List Line) InputError
+choice_as version all heads.Protocol l ls = body_in all ls >>= λ b. Ok (choices.Own l.number b.0, b.1)
+choice_as version all (heads.Shipped which) l ls = if version == 2 then Ok (choices.Shipped l.number which, ls) else Ok (choices.Default, l ∷ ls)
+choice_as version all _ l ls = Ok (choices.Default, l ∷ ls)
 
-abbrev pub choice_as : ℕ → ℕ → Head → Line → List Line → Result Choice InputError
-choice_as version all heads.Protocol l ls = body_in all ls >>= λ b. at_end all b.1 (choices.Own l.number b.0)
-choice_as version all (heads.Shipped which) l ls = if version == 2 then at_end all ls (choices.Shipped l.number which) else Err (misfit all (l ∷ ls))
-choice_as version all _ l ls = Err (misfit all (l ∷ ls))
-
--- the last lines choose the protocol; `shipped` is a line of version 2 alone
-unfoldable pub choice_in : ℕ → ℕ → List Line → Result Choice InputError
-choice_in version all [] = Ok choices.Default
+-- the next lines choose the protocol, where they are such lines
+unfoldable pub choice_in : ℕ → ℕ → List Line → Result (Choice × List Line) InputError
+choice_in version all [] = Ok (choices.Default, [])
 choice_in version all (l ∷ ls) = choice_as version all (head_of l.tokens) l ls
+
+-- ---- the end
+
+-- no line is left, or the next is the line `report`
+abbrev pub ends_so : Ending → List Line → Bool
+ends_so endings.Text [] = true
+ends_so endings.Text (l ∷ ls) = false
+ends_so endings.Report [] = false
+ends_so endings.Report (l ∷ ls) = is_report (head_of l.tokens)
+
+-- the lines of the report, of which a missing one would stand after the last of all
+unfoldable pub ending_in : Ending → ℕ → List Line → Result Body InputError
+ending_in ending all lines = if ends_so ending lines then Ok (record { lines = behind lines; end = all + 1 }) else Err (misfit all lines)
 
 -- ---- the whole
 
-unfoldable pub laid_out : ℕ → List Line → Result Layout InputError
-laid_out all lines =
+-- what the lines are, up to their end or up to a report, and the lines of the report
+unfoldable pub laid_out : Ending → ℕ → List Line → Result (Layout × Body) InputError
+laid_out ending all lines =
     field_in Version all lines >>= λ version.
     field_in Nodes all version.1 >>= λ nodes.
     field_in Words all nodes.1 >>= λ words.
     field_in Blocks all words.1 >>= λ blocks.
     sections_in all (inits_in (budget_in blocks.1).1).1 >>= λ sections.
     choice_in version.0.value all sections.1 >>= λ choice.
-    Ok (record {
-      version = version.0;
-      nodes = nodes.0;
-      words = words.0;
-      blocks = blocks.0;
-      budget = (budget_in blocks.1).0;
-      inits = (inits_in (budget_in blocks.1).1).0;
-      programs = sections.0;
-      protocol = choice;
-    })
+    ending_in ending all choice.1 >>= λ report.
+    Ok (
+      record {
+        version = version.0;
+        nodes = nodes.0;
+        words = words.0;
+        blocks = blocks.0;
+        budget = (budget_in blocks.1).0;
+        inits = (inits_in (budget_in blocks.1).1).0;
+        programs = sections.0;
+        protocol = choice.0;
+      },
+      report,
+    )

@@ -15,7 +15,10 @@ use Rattle.mini_asm.specs.Assembled.{program_of}
 use Rattle.mini_asm.specs.Programs.{has_faa}
 use Rattle.mini_asm.specs.Run.{IsInit}
 use Rattle.tempest_input.specs.declared.layout.Section.{Section}
+use Rattle.tempest_input.specs.declared.layout.Body.{Body}
 use Rattle.tempest_input.specs.declared.layout.Choice.{Choice}
+use Rattle.tempest_input.specs.declared.layout.Ending.{Ending}
+use Rattle.tempest_input.specs.declared.layout.Ending.TheVariants.{Text}
 use Rattle.tempest_input.specs.declared.layout.Layout.{Layout}
 use Rattle.tempest_input.specs.declared.error.InputError.{InputError}
 use Rattle.tempest_input.specs.declared.error.InputError.TheVariants.{Refused, Memory}
@@ -91,10 +94,14 @@ in_line (Err (lexical.NotAscii line)) = Err (Refused line why.NotAscii)
 in_line (Err (lexical.BadToken line)) = Err (Refused line why.BadToken)
 in_line (Err lexical.Memory) = Err Memory
 
--- the lines of a text, laid out
-unfoldable pub layout_of : List ℕ → Result Layout InputError
-layout_of text = in_line (lexed text) >>= λ found. laid_out found.all found.list
+-- the lines of a text, laid out, and the lines of its report; all of them have tokens
+unfoldable pub layout_of : Ending → List ℕ → Result (Layout × Body) InputError
+layout_of ending text = in_line (lexed text) >>= λ found. laid_out ending found.all found.list
 
--- the settings in a text, or what it is refused for
+-- the settings in a text and the lines of its report, or what it is refused for
+abbrev pub settings_and_report : Ending → List ℕ → Result (Settings × Body) InputError
+settings_and_report ending text = layout_of ending text >>= λ l. settings_of l.0 >>= λ s. Ok (s, l.1)
+
+-- the settings in a text without a report
 abbrev pub settings_in : List ℕ → Result Settings InputError
-settings_in text = layout_of text >>= λ l. settings_of l
+settings_in text = settings_and_report Text text >>= λ s. Ok s.0

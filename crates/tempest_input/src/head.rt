@@ -1,5 +1,5 @@
 ghost use Rattle.std.specs.Prelude.{◌≡◌};
-ghost use Rattle.tempest_input.specs.Heads.{head_of, word_head, number_head, words_head, init_head, one_head, two_head, three_head};
+ghost use Rattle.tempest_input.specs.Heads.{head_of, word_head, number_head, shipped_as, words_head, init_head, one_head, two_head, three_head};
 
 use tw_lex::{Token, What};
 
@@ -17,6 +17,10 @@ pub enum Field {
 #[derive(Clone, Copy, Debug, PartialEq, Eq)]
 pub enum Shipped {
     Stache,
+    /// The one in which a recall for a reader leaves the owner a copy.
+    StacheD,
+    /// The one with a directory of two sharers.
+    StacheL,
 }
 
 /// What a line outside of the sections says.
@@ -33,6 +37,8 @@ pub enum Head {
     Shipped(Shipped),
     /// A section ends.
     End,
+    /// A report begins.
+    Report,
     /// A line of no such form.
     Other,
 }
@@ -44,6 +50,8 @@ fn word_head(word: &[u8]) -> Head
         Head::Protocol
     } else if word == b"end".as_slice() {
         Head::End
+    } else if word == b"report".as_slice() {
+        Head::Report
     } else {
         Head::Other
     }
@@ -69,14 +77,27 @@ fn number_head(word: &[u8], number: u64) -> Head
     }
 }
 
+fn shipped_as(name: &[u8]) -> Option<Shipped>
+    ensures { result ≡ shipped_as name.now }
+{
+    if name == b"Stache".as_slice() {
+        Some(Shipped::Stache)
+    } else if name == b"Stache_D".as_slice() {
+        Some(Shipped::StacheD)
+    } else if name == b"Stache_L".as_slice() {
+        Some(Shipped::StacheL)
+    } else {
+        None
+    }
+}
+
 fn words_head(word: &[u8], name: &[u8]) -> Head
     ensures { result ≡ words_head word.now name.now }
 {
     if word == b"shipped".as_slice() {
-        if name == b"Stache".as_slice() {
-            Head::Shipped(Shipped::Stache)
-        } else {
-            Head::Other
+        match shipped_as(name) {
+            Some(which) => Head::Shipped(which),
+            None => Head::Other,
         }
     } else {
         Head::Other

@@ -1,6 +1,6 @@
 ghost use Rattle.std.specs.Prelude.{◌≡◌, ◌+◌, ◌^◌, ◌<◌, [], ◌∷◌, ◌++◌, length, IfOk};
 ghost use Rattle.tw_base.specs.Answers.{Gives};
-ghost use Rattle.tempest_input.specs.Layout.{Steps, is_memory, misfit, peeked, is_end, is_field, number_in, field_in, budget_in, init_in, next_init, inits_in, body_in, next_node, behind, number_of_next, section_in, sections_in, at_end, choice_in, laid_out};
+ghost use Rattle.tempest_input.specs.Layout.{Steps, is_memory, misfit, peeked, is_end, is_field, number_in, field_in, budget_in, init_in, next_init, inits_in, body_in, next_node, behind, number_of_next, section_in, sections_in, choice_in, is_report, ends_so, ending_in, laid_out};
 
 use crate::error::{InputError, Why};
 use crate::head::{Field, Head, Shipped, head_of};
@@ -47,6 +47,15 @@ pub enum Choice {
     Own(u32, Body),
     /// The line that names it.
     Shipped(u32, Shipped),
+}
+
+/// Where a layout ends.
+#[derive(Clone, Copy, Debug, PartialEq, Eq)]
+pub enum Ending {
+    /// With the last line of its text.
+    Text,
+    /// At a line `report`, behind which the lines of a report stand.
+    Report,
 }
 
 /// What the lines of a text are.
@@ -221,17 +230,6 @@ fn sections_in(
     Ok(Listed::of(sections))
 }
 
-fn at_end(all: u32, lines: &Stack<Line>, choice: Choice) -> Result<Choice, InputError>
-    requires { all + 1 < 2 ^ 32 }
-    ensures { Gives is_memory (λ c. c) result (at_end all lines.now choice) }
-{
-    if lines.is_empty() {
-        Ok(choice)
-    } else {
-        Err(misfit(all, lines))
-    }
-}
-
 #[tactic(auto, unfolding(crate::specs::Layout::choice_in))]
 fn choice_in(
     alloc: Global,
@@ -240,7 +238,7 @@ fn choice_in(
     lines: &mut Stack<Line>,
 ) -> Result<Choice, InputError>
     requires { all + 1 < 2 ^ 32 }
-    ensures { Gives is_memory (λ c. c) result (choice_in version all lines.old) }
+    ensures { Steps result lines.new (choice_in version all lines.old) }
 {
     let Some((line, head)) = peek(lines) else {
         return Ok(Choice::Default);
@@ -249,21 +247,61 @@ fn choice_in(
         Head::Protocol => {
             lines.pop();
             let body = body_in(alloc, all, lines)?;
-            at_end(all, lines, Choice::Own(line, body))
+            Ok(Choice::Own(line, body))
         }
         Head::Shipped(which) if version == 2 => {
             lines.pop();
-            at_end(all, lines, Choice::Shipped(line, which))
+            Ok(Choice::Shipped(line, which))
         }
-        _ => Err(misfit(all, lines)),
+        _ => Ok(Choice::Default),
     }
 }
 
-/// What the lines of a text are, `all` of which there are; or the first that does not fit.
-#[tactic(auto, unfolding(crate::specs::Layout::laid_out))]
-pub fn laid_out(alloc: Global, all: u32, lines: Listed<Line>) -> Result<Layout, InputError>
+fn is_report(head: Head) -> bool
+    ensures { result ≡ is_report head }
+{
+    head == Head::Report
+}
+
+// Whether a layout ends here.
+fn ends_so(ending: Ending, lines: &Stack<Line>) -> bool
+    ensures { result ≡ ends_so ending lines.now }
+{
+    match (ending, peek(lines)) {
+        (Ending::Text, None) => true,
+        (Ending::Text, Some(_)) => false,
+        (Ending::Report, None) => false,
+        (Ending::Report, Some((_, head))) => is_report(head),
+    }
+}
+
+// The lines of the report behind a layout that ends here.
+#[tactic(auto, unfolding(crate::specs::Layout::ending_in))]
+fn ending_in(ending: Ending, all: u32, mut lines: Stack<Line>) -> Result<Body, InputError>
     requires { all + 1 < 2 ^ 32 }
-    ensures { Gives is_memory (λ l. l) result (laid_out all lines) }
+    ensures { Gives is_memory (λ b. b) result (ending_in ending all lines) }
+{
+    if !ends_so(ending, &lines) {
+        return Err(misfit(all, &lines));
+    }
+    lines.pop();
+    Ok(Body {
+        lines: lines.into_listed(),
+        end: all + 1,
+    })
+}
+
+/// What the lines of a text are, `all` of which there are, and those of the report behind them, of which a missing one would
+/// be at `all + 1`; or the first that does not fit.
+#[tactic(auto, unfolding(crate::specs::Layout::laid_out))]
+pub fn laid_out(
+    alloc: Global,
+    ending: Ending,
+    all: u32,
+    lines: Listed<Line>,
+) -> Result<(Layout, Body), InputError>
+    requires { all + 1 < 2 ^ 32 }
+    ensures { Gives is_memory (λ l. l) result (laid_out ending all lines) }
 {
     let mut lines = Stack::of(lines.into_vec());
     let version = field_in(Field::Version, all, &mut lines)?;
@@ -274,7 +312,8 @@ pub fn laid_out(alloc: Global, all: u32, lines: Listed<Line>) -> Result<Layout, 
     let inits = inits_in(alloc, &mut lines)?;
     let programs = sections_in(alloc, all, &mut lines)?;
     let protocol = choice_in(alloc, version.value, all, &mut lines)?;
-    Ok(Layout {
+    let report = ending_in(ending, all, lines)?;
+    let layout = Layout {
         version,
         nodes,
         words,
@@ -283,5 +322,6 @@ pub fn laid_out(alloc: Global, all: u32, lines: Listed<Line>) -> Result<Layout, 
         inits,
         programs,
         protocol,
-    })
+    };
+    Ok((layout, report))
 }

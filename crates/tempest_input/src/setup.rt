@@ -3,10 +3,10 @@ ghost use Rattle.tw_base.specs.Answers.{Gives};
 ghost use Rattle.tw_lex.specs.Lines.{lexed};
 ghost use Rattle.mini_asm.specs.Assembled.{program_of};
 ghost use Rattle.tempest_input.specs.Layout.{is_memory};
-ghost use Rattle.tempest_input.specs.Settings.{in_line, in_program, layout_of, parsed, program_at, program_for, each_below, settings_in, settings_of};
+ghost use Rattle.tempest_input.specs.Settings.{in_line, in_program, layout_of, parsed, program_at, program_for, each_below, settings_and_report, settings_in, settings_of};
 
 use crate::error::{InputError, Why};
-use crate::layout::{Choice, Layout, Section, laid_out};
+use crate::layout::{Body, Choice, Ending, Layout, Section, laid_out};
 use crate::numbers::{nodes_of, shape_of, words_of};
 use mini_asm::{Instr, Program, ProgramError, parse_program};
 use std::alloc::Global;
@@ -111,14 +111,14 @@ pub fn lexed(alloc: Global, text: &[u8]) -> Result<Lexed, InputError>
     }
 }
 
-/// The lines of a text, laid out.
+/// The lines of a text, laid out, and the lines of its report.
 #[tactic(auto, unfolding(crate::specs::Settings::layout_of))]
-pub fn layout_of(alloc: Global, text: &[u8]) -> Result<Layout, InputError>
+pub fn layout_of(alloc: Global, ending: Ending, text: &[u8]) -> Result<(Layout, Body), InputError>
     requires { length text.now + 2 < 2 ^ 32 }
-    ensures { Gives is_memory (λ l. l) result (layout_of text.now) }
+    ensures { Gives is_memory (λ l. l) result (layout_of ending text.now) }
 {
     let found = lexed(alloc, text)?;
-    laid_out(alloc, found.all, found.list)
+    laid_out(alloc, ending, found.all, found.list)
 }
 
 fn program_in(alloc: Global, version: u8, section: &Section) -> Result<Program, InputError>
@@ -216,11 +216,25 @@ pub fn settings_of(alloc: Global, layout: Layout) -> Result<Settings, InputError
     })
 }
 
-/// The settings in a text, or its first fault.
+/// The settings in a text and the lines of its report, or its first fault. A text without a report has no such line.
+pub fn settings_and_report(
+    alloc: Global,
+    ending: Ending,
+    text: &[u8],
+) -> Result<(Settings, Body), InputError>
+    requires { length text.now + 2 < 2 ^ 32 }
+    ensures { Gives is_memory (λ s. s) result (settings_and_report ending text.now) }
+{
+    let (layout, report) = layout_of(alloc, ending, text)?;
+    let settings = settings_of(alloc, layout)?;
+    Ok((settings, report))
+}
+
+/// The settings in a text without a report, or its first fault.
 pub fn settings_in(alloc: Global, text: &[u8]) -> Result<Settings, InputError>
     requires { length text.now + 2 < 2 ^ 32 }
     ensures { Gives is_memory (λ s. s) result (settings_in text.now) }
 {
-    let layout = layout_of(alloc, text)?;
-    settings_of(alloc, layout)
+    let (settings, _) = settings_and_report(alloc, Ending::Text, text)?;
+    Ok(settings)
 }

@@ -3,8 +3,12 @@ use Rattle.std.proofs.Common.{◌≡◌, ℕ, List, Bool, true, false, if◌then
 use Rattle.tw_base.specs.declared.entry.Entry.{Entry}
 use Rattle.tempest_input.specs.declared.error.InputError.{InputError}
 use Rattle.tempest_input.specs.declared.error.InputError.TheVariants.{Refused, Memory}
+use Rattle.tempest_input.specs.declared.layout.Body.{Body}
+use Rattle.tempest_trials.specs.declared.trial.Trial.{Trial}
+use Rattle.tempest_trials.specs.declared.trial.Trial.TheVariants as trials
+use Rattle.tempest_trials.specs.Laws.{TrialsAreOne}
 use Rattle.tempest_words.specs.declared.request.Command.{Command}
-use Rattle.tempest_words.specs.declared.request.Command.TheVariants.{Check, Code as ForCode, Run, Sample, Show, Serial, Table}
+use Rattle.tempest_words.specs.declared.request.Command.TheVariants.{Audit, Check, Code as ForCode, Replay, Run, Sample, Show, Serial, Table}
 use Rattle.dsm_runs.specs.Schedules.{Settles}
 use Rattle.dsm_runs.specs.Setups.{Setup}
 use Rattle.dsm_runs.specs.Worlds.{World, start}
@@ -13,9 +17,9 @@ use Rattle.teapot_tree.specs.declared.protocol.Protocol.{Protocol}
 use Rattle.handler_code.specs.declared.code.Code.{Code}
 use Rattle.compiled_meaning.specs.Whole.{IsCode}
 use Rattle.tempest_run.specs.declared.answer.Answer.{Answer}
-use Rattle.tempest_run.specs.Answering.{Answers, AnswersAlone, AnswersIn, IsAnswerIf, IsAnswered, TellsOfCode, TellsOfRun, check_answer, code_answer}
-use Rattle.tempest_run.specs.Answering.{has_halted, reads_input, refusal, report_answer, sample_answer, show_answer}
-use Rattle.tempest_run.specs.Answering.{status_of, table_answer}
+use Rattle.tempest_run.specs.Answering.{Answers, AnswersAlone, AnswersIn, IsAnswerIf, IsAnswered, TellsOfAudit, TellsOfCode, TellsOfReplay, TellsOfRun, check_answer, code_answer}
+use Rattle.tempest_run.specs.Answering.{ending_of, has_halted, reads_input, refusal, report_answer, sample_answer, show_answer}
+use Rattle.tempest_run.specs.Answering.{status_of, table_answer, trial_answer}
 use Rattle.tempest_run.specs.Laws.{AnswerIsOne, has_many_answers}
 use Rattle.tempest_run.specs.declared.status.Status.TheVariants.{Done, Unfinished}
 use Rattle.tempest_run.proofs.CallLaws.{AnswersAnswer}
@@ -70,23 +74,40 @@ one_tale one counts s stride o a b x y =
 one_text : CodesAreOne → (p : Protocol) (a b : Answer) → TellsOfCode p a → TellsOfCode p b → a ≡ b
 one_text one p a b x y = x.tells ∙ ap (λ code. code_answer p code) (one p x.code y.code x.is_code y.is_code) ∙ sym y.tells
 
+-- a report is audited once, and so many of its events are made anew once
+one_audit : TrialsAreOne → (s : Setup) (report : Body) (a b : Answer) → TellsOfAudit s report a → TellsOfAudit s report b → a ≡ b
+one_audit one s report a b x y = x.tells ∙ ap trial_answer (one.audit s report.end report.lines x.trial y.trial x.audit y.audit) ∙ sym y.tells
+
+one_replay : TrialsAreOne → (count : ℕ) (s : Setup) (report : Body) (a b : Answer) → TellsOfReplay count s report a → TellsOfReplay count s report b → a ≡ b
+one_replay one count s report a b x y =
+    x.tells ∙ ap trial_answer (one.replay count s report.end report.lines x.trial y.trial x.replay y.replay) ∙ sym y.tells
+
+-- the laws below, that this one is over
+pub record Laws : Type 0 where
+  pub runs : RunsAreOne
+  pub counts : CountsAreOne
+  pub codes : CodesAreOne
+  pub trials : TrialsAreOne
+
 one_about :
-    RunsAreOne → CountsAreOne → CodesAreOne → (command : Command) (o : Options) (s : Setup) (a b : Answer) →
-    has_many_answers command ≡ false → Answers command o s a → Answers command o s b → a ≡ b
-one_about one counts code Run o s a b plain x y = absurd cc
-one_about one counts code (Serial stride) o s a b plain x y = one_tale one counts s stride o a b x y
-one_about one counts code Check o s a b plain x y = x ∙ sym y
-one_about one counts code ForCode o s a b plain x y = one_text code s.protocol a b x y
-one_about one counts code Show o s a b plain x y = x ∙ sym y
-one_about one counts code Table o s a b plain x y = absurd x
-one_about one counts code (Sample k) o s a b plain x y = absurd x
+    Laws → (command : Command) (o : Options) (s : Setup) (report : Body) (a b : Answer) → has_many_answers command ≡ false →
+    Answers command o s report a → Answers command o s report b → a ≡ b
+one_about laws Run o s report a b plain x y = absurd cc
+one_about laws (Serial stride) o s report a b plain x y = one_tale laws.runs laws.counts s stride o a b x y
+one_about laws Check o s report a b plain x y = x ∙ sym y
+one_about laws ForCode o s report a b plain x y = one_text laws.codes s.protocol a b x y
+one_about laws Show o s report a b plain x y = x ∙ sym y
+one_about laws Table o s report a b plain x y = absurd x
+one_about laws (Sample k) o s report a b plain x y = absurd x
+one_about laws Audit o s report a b plain x y = one_audit laws.trials s report a b x y
+one_about laws (Replay count) o s report a b plain x y = one_replay laws.trials count s report a b x y
 
 one_in :
-    RunsAreOne → CountsAreOne → CodesAreOne → (command : Command) (o : Options) (r : Result Setup InputError) (a b : Answer) →
+    Laws → (command : Command) (o : Options) (r : Result (Setup × Body) InputError) (a b : Answer) →
     has_many_answers command ≡ false → AnswersIn command o r a → AnswersIn command o r b → a ≡ b
-one_in one counts code command o (Ok s) a b plain x y = one_about one counts code command o s a b plain x y
-one_in one counts code command o (Err (Refused number reason)) a b plain x y = x ∙ sym y
-one_in one counts code command o (Err Memory) a b plain x y = absurd x
+one_in laws command o (Ok i) a b plain x y = one_about laws command o i.0 i.1 a b plain x y
+one_in laws command o (Err (Refused number reason)) a b plain x y = x ∙ sym y
+one_in laws command o (Err Memory) a b plain x y = absurd x
 
 one_alone : (command : Command) (a b : Answer) → has_many_answers command ≡ false → AnswersAlone command a → AnswersAlone command b → a ≡ b
 one_alone Table a b plain x y = x ∙ sym y
@@ -96,16 +117,17 @@ one_alone (Serial stride) a b plain x y = absurd x
 one_alone Check a b plain x y = absurd x
 one_alone ForCode a b plain x y = absurd x
 one_alone Show a b plain x y = absurd x
+one_alone Audit a b plain x y = absurd x
+one_alone (Replay count) a b plain x y = absurd x
 
 one_if :
-    RunsAreOne → CountsAreOne → CodesAreOne → (reads : Bool) (command : Command) (o : Options) (text : List ℕ) (a b : Answer) →
+    Laws → (reads : Bool) (command : Command) (o : Options) (text : List ℕ) (a b : Answer) →
     has_many_answers command ≡ false → IsAnswerIf reads command o text a → IsAnswerIf reads command o text b → a ≡ b
-one_if one counts code true command o text a b plain x y = one_in one counts code command o (input_of text) a b plain x y
-one_if one counts code false command o text a b plain x y = one_alone command a b plain x y
+one_if laws true command o text a b plain x y = one_in laws command o (input_of (ending_of command) text) a b plain x y
+one_if laws false command o text a b plain x y = one_alone command a b plain x y
 
-pub one_answer : RunsAreOne → CountsAreOne → CodesAreOne → AnswerIsOne
-one_answer one counts code asked text a b plain x y =
-    one_if one counts code (reads_input asked.command) asked.command _ text a b plain x y
+pub one_answer : Laws → AnswerIsOne
+one_answer laws asked text a b plain x y = one_if laws (reads_input asked.command) asked.command _ text a b plain x y
 
 -- ---- the statuses of answers
 
@@ -121,18 +143,24 @@ told-status :
 told-status s j g ops records o a e =
     status-along a (report_answer s j g ops records o) e (report-status (counted_finals s g ops records))
 
-about-status : (command : Command) (o : Options) (s : Setup) (a : Answer) → Answers command o s a → IsAnswered a.status
-about-status Run o s a x = told-status s x.journal x.state (λ i. (x.counts i).ops) (λ i. (x.counts i).records) o a x.tells
-about-status (Serial stride) o s a x =
-    told-status s x.journal x.state (λ i. (x.counts i).ops) (λ i. (x.counts i).records) o a x.tells
-about-status Check o s a x = status-along a (check_answer s.protocol) x tt
-about-status ForCode o s a x = status-along a (code_answer s.protocol x.code) x.tells tt
-about-status Show o s a x = status-along a (show_answer s.protocol) x tt
-about-status Table o s a x = absurd x
-about-status (Sample k) o s a x = absurd x
+trial-status : (t : Trial) → IsAnswered (trial_answer t).status
+trial-status (trials.Stands text) = tt
+trial-status (trials.Denied text) = tt
 
-in-status : (command : Command) (o : Options) (r : Result Setup InputError) (a : Answer) → AnswersIn command o r a → IsAnswered a.status
-in-status command o (Ok s) a x = about-status command o s a x
+about-status : (command : Command) (o : Options) (s : Setup) (report : Body) (a : Answer) → Answers command o s report a → IsAnswered a.status
+about-status Run o s report a x = told-status s x.journal x.state (λ i. (x.counts i).ops) (λ i. (x.counts i).records) o a x.tells
+about-status (Serial stride) o s report a x =
+    told-status s x.journal x.state (λ i. (x.counts i).ops) (λ i. (x.counts i).records) o a x.tells
+about-status Check o s report a x = status-along a (check_answer s.protocol) x tt
+about-status ForCode o s report a x = status-along a (code_answer s.protocol x.code) x.tells tt
+about-status Show o s report a x = status-along a (show_answer s.protocol) x tt
+about-status Table o s report a x = absurd x
+about-status (Sample k) o s report a x = absurd x
+about-status Audit o s report a x = status-along a (trial_answer x.trial) x.tells (trial-status x.trial)
+about-status (Replay count) o s report a x = status-along a (trial_answer x.trial) x.tells (trial-status x.trial)
+
+in-status : (command : Command) (o : Options) (r : Result (Setup × Body) InputError) (a : Answer) → AnswersIn command o r a → IsAnswered a.status
+in-status command o (Ok i) a x = about-status command o i.0 i.1 a x
 in-status command o (Err (Refused number reason)) a x = status-along a (refusal number reason) x tt
 in-status command o (Err Memory) a x = absurd x
 
@@ -144,11 +172,13 @@ alone-status (Serial stride) a x = absurd x
 alone-status Check a x = absurd x
 alone-status ForCode a x = absurd x
 alone-status Show a x = absurd x
+alone-status Audit a x = absurd x
+alone-status (Replay count) a x = absurd x
 
 if-status : (reads : Bool) (command : Command) (o : Options) (text : List ℕ) (a : Answer) → IsAnswerIf reads command o text a → IsAnswered a.status
-if-status true command o text a x = in-status command o (input_of text) a x
+if-status true command o text a x = in-status command o (input_of (ending_of command) text) a x
 if-status false command o text a x = alone-status command a x
 
--- a text is answered with one of three statuses
+-- a text is answered with one of four statuses
 pub answers-answer : AnswersAnswer
 answers-answer q text a x = if-status (reads_input q.command) q.command _ text a x

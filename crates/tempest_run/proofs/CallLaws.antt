@@ -11,7 +11,7 @@ use Rattle.tempest_run.specs.Answering.{IsAnswer, IsAnswered, reads_input}
 use Rattle.tempest_run.specs.CallLaws.{InputIsAnswered, IsAnsweredWith, LengthIsRefused, Says, StatusesSay, WordsAreRefused}
 use Rattle.tempest_run.specs.Calls.{Ends, IsDue, IsInput, answered, bad_length, bad_words, most_input, no_memory, read_fault, write_fault, wrote}
 
--- a text is answered with one of three statuses
+-- a text is answered with one of four statuses
 abbrev pub AnswersAnswer : Type 0
 AnswersAnswer = (q : Asked) (text : List ℕ) (a : Answer) → IsAnswer q text a → IsAnswered a.status
 
@@ -20,6 +20,7 @@ AnswersAnswer = (q : Asked) (text : List ℕ) (a : Answer) → IsAnswer q text a
 with-answer : (asked : Option Asked) (s t k h : Told) (got : List ℕ) (status : Status) → IsAnswered status → IsAnsweredWith asked s t k h got status → Says asked s t k h got status
 with-answer asked s t k h got statuses.Done is all = all
 with-answer asked s t k h got statuses.Refused is all = all
+with-answer asked s t k h got statuses.Denied is all = all
 with-answer asked s t k h got statuses.Unfinished is all = all
 with-answer asked s t k h got statuses.Memory is all = absurd is
 with-answer asked s t k h got statuses.Usage is all = absurd is

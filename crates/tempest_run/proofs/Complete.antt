@@ -5,11 +5,12 @@ use Rattle.tw_io.specs.Causes.{Rose}
 use Rattle.tw_io.specs.Told.{Told}
 use Rattle.dsm_runs.specs.Setups.{Setup}
 use Rattle.tempest_input.specs.declared.error.InputError.{InputError}
+use Rattle.tempest_input.specs.declared.layout.Body.{Body}
 use Rattle.tempest_words.specs.declared.request.Asked.{Asked}
 use Rattle.tempest_run.specs.declared.answer.Answer.{Answer}
 use Rattle.tempest_run.specs.declared.status.Status.{Status}
 use Rattle.tempest_run.specs.declared.status.Status.TheVariants as statuses
-use Rattle.tempest_run.specs.Answering.{Answers, AnswersAlone, AnswersIn, IsAnswer, IsAnswerIf, options_of, reads_input}
+use Rattle.tempest_run.specs.Answering.{Answers, AnswersAlone, AnswersIn, IsAnswer, IsAnswerIf, ending_of, options_of, reads_input}
 use Rattle.tempest_run.specs.CallLaws.{HasItsStatus, OthersAreAnswered, ValidTextsAreAnswered}
 use Rattle.tempest_run.specs.Calls.{Ends, IsDue, answered, bad_length, bad_words, no_memory, read_fault, write_fault, wrote}
 use Rattle.tempest_run.specs.Inputs.{input_of}
@@ -19,25 +20,25 @@ use Rattle.tempest_run.proofs.HowEnded.{alone_is_done, has_its_status}
 -- ---- a text
 
 about :
-    (q : Asked) (text : List ℕ) (s : Setup) (a : Answer) → reads_input q.command ≡ true → input_of text ≡ Ok s →
-    IsAnswer q text a → Answers q.command (options_of q) s a
-about q text s a reads valid is =
-    let read : AnswersIn q.command (options_of q) (input_of text) a = subst
+    (q : Asked) (text : List ℕ) (s : Setup) (report : Body) (a : Answer) → reads_input q.command ≡ true → input_of (ending_of q.command) text ≡ Ok (s, report) →
+    IsAnswer q text a → Answers q.command (options_of q) s report a
+about q text s report a reads valid is =
+    let read : AnswersIn q.command (options_of q) (input_of (ending_of q.command) text) a = subst
     (λ (b : Bool). IsAnswerIf b q.command (options_of q) text a) reads is in
-    subst (λ (r : Result Setup InputError). AnswersIn q.command (options_of q) r a) valid read
+    subst (λ (r : Result (Setup × Body) InputError). AnswersIn q.command (options_of q) r a) valid read
 
 pub valid_texts_are_answered : ValidTextsAreAnswered
-valid_texts_are_answered q source source2 sink sink2 result s call in_well out_well reads tells =
+valid_texts_are_answered q source source2 sink sink2 result s report call in_well out_well reads tells =
     go (input_is_answered q source source2 sink sink2 result tells.text call in_well out_well reads tells.told tells.short)
   where
     go : (result ≡ statuses.Memory) ⊎ ((a : Answer) × IsAnswer q tells.text a ×
         (result ≡ a.status) × Appends sink.bytes sink2.bytes a.text)
-        → (result ≡ statuses.Memory) ⊎ ((a : Answer) × Answers q.command (options_of q) s a × HasItsStatus q.command
+        → (result ≡ statuses.Memory) ⊎ ((a : Answer) × Answers q.command (options_of q) s report a × HasItsStatus q.command
         (options_of q) s a × (result ≡ a.status) × Appends sink.bytes sink2.bytes a.text)
     go (inl e) = inl e
     go (inr x) =
-        let is : Answers q.command (options_of q) s x.0 = about q tells.text s x.0 reads tells.valid x.1 in
-        inr (x.0, is, has_its_status q.command (options_of q) s x.0 is, x.2, x.3)
+        let is : Answers q.command (options_of q) s report x.0 = about q tells.text s report x.0 reads tells.valid x.1 in
+        inr (x.0, is, has_its_status q.command (options_of q) s report x.0 is, x.2, x.3)
 
 -- ---- no text
 

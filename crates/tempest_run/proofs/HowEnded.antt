@@ -12,14 +12,17 @@ use Rattle.dsm_runs.proofs.Lists.{and_left, and_right}
 use Rattle.journal.specs.declared.finals.Final.{Final}
 use Rattle.journal.specs.declared.reports.Options.{Options}
 use Rattle.journal.specs.Finals.{counted_final, counted_finals}
-use Rattle.stache_tree.specs.Tree.{IsStache}
+use Rattle.sound_runs.specs.Shipped.{IsShipped}
 use Rattle.sound_runs.specs.Sound.{EndsSoundly, HasSpent, HasTrapped, IsSoundOutcome}
+use Rattle.tempest_input.specs.declared.layout.Body.{Body}
+use Rattle.tempest_trials.specs.declared.trial.Trial.{Trial}
+use Rattle.tempest_trials.specs.declared.trial.Trial.TheVariants as trials
 use Rattle.tempest_words.specs.declared.request.Command.{Command}
-use Rattle.tempest_words.specs.declared.request.Command.TheVariants.{Check, Code as ForCode, Run, Sample, Show, Serial, Table}
+use Rattle.tempest_words.specs.declared.request.Command.TheVariants.{Audit, Check, Code as ForCode, Replay, Run, Sample, Show, Serial, Table}
 use Rattle.tempest_run.specs.declared.answer.Answer.{Answer}
 use Rattle.tempest_run.specs.declared.status.Status.{Status}
-use Rattle.tempest_run.specs.declared.status.Status.TheVariants.{Done, Unfinished}
-use Rattle.tempest_run.specs.Answering.{Answers, AnswersAlone, TellsOfRun, TellsOfThreads, has_halted, status_of}
+use Rattle.tempest_run.specs.declared.status.Status.TheVariants.{Denied, Done, Unfinished}
+use Rattle.tempest_run.specs.Answering.{Answers, AnswersAlone, TellsOfRun, TellsOfThreads, has_halted, status_of, trial_answer}
 use Rattle.tempest_run.specs.CallLaws.{HasItsStatus, IsReport, SaysHowNodesEnded}
 
 -- ---- a test of n numbers from a on
@@ -87,7 +90,7 @@ rests_not_halted s l x (inr h) e = let z : Spent ≡ Halted = sym (x.spent.1 h) 
 
 -- ---- a status
 
-module _ (s : Setup) (g : World) (ops records : ℕ → ℕ) (sound : IsStache s.protocol → (i : ℕ) → i < s.shape.nodes →
+module _ (s : Setup) (g : World) (ops records : ℕ → ℕ) (sound : IsShipped s.protocol → (i : ℕ) → i < s.shape.nodes →
     EndsSoundly s (g.locals i)) where
   tested : list_all (λ f. has_halted f.outcome) (counted_finals s g ops records) ≡ list_all
       (λ i. has_halted (outcome_of s (g.locals i))) (range_with_len 0 s.shape.nodes)
@@ -104,7 +107,7 @@ module _ (s : Setup) (g : World) (ops records : ℕ → ℕ) (sound : IsStache s
       record {
         done = ((λ x. all), (λ x. refl));
         unfinished = ((λ x. absurd cc), (λ x. absurd (x.2 (all x.0 x.1))));
-        under_stache = λ is. (
+        under_shipped = λ is. (
           (λ x. absurd cc),
           (λ x. absurd
               (rests_not_halted s (g.locals x.0) (sound is x.0 x.1) x.2 (all x.0 x.1))),
@@ -117,7 +120,7 @@ module _ (s : Setup) (g : World) (ops records : ℕ → ℕ) (sound : IsStache s
       record {
         done = ((λ y. absurd cc), (λ all. absurd (differs (all x.at within))));
         unfinished = ((λ y. (x.at, within, differs)), (λ y. refl));
-        under_stache = λ is. ((λ y. (x.at, within, rests s (g.locals x.at) (sound is x.at within) differs)), (λ y. refl));
+        under_shipped = λ is. ((λ y. (x.at, within, rests s (g.locals x.at) (sound is x.at within) differs)), (λ y. refl));
       }
 
   pub says : (status : Status) → status ≡ status_of (counted_finals s g ops records) → SaysHowNodesEnded s g status
@@ -151,15 +154,22 @@ threads_report s o a x = record {
       (ap (λ (y : Answer). y.status) x.tells);
 }
 
+-- the status of a trial
+tried : (t : Trial) (a : Answer) → a ≡ trial_answer t → (a.status ≡ Done) ⊎ (a.status ≡ Denied)
+tried (trials.Stands text) a e = inl (ap (λ (y : Answer). y.status) e)
+tried (trials.Denied text) a e = inr (ap (λ (y : Answer). y.status) e)
+
 pub has_its_status :
-    (command : Command) (o : Options) (s : Setup) (a : Answer) → Answers command o s a → HasItsStatus command o s a
-has_its_status Run o s a x = threads_report s o a x
-has_its_status (Serial stride) o s a x = serial_report s stride o a x
-has_its_status Check o s a x = ap (λ (y : Answer). y.status) x
-has_its_status ForCode o s a x = ap (λ (y : Answer). y.status) x.tells
-has_its_status Show o s a x = ap (λ (y : Answer). y.status) x
-has_its_status Table o s a x = absurd x
-has_its_status (Sample k) o s a x = absurd x
+    (command : Command) (o : Options) (s : Setup) (report : Body) (a : Answer) → Answers command o s report a → HasItsStatus command o s a
+has_its_status Run o s report a x = threads_report s o a x
+has_its_status (Serial stride) o s report a x = serial_report s stride o a x
+has_its_status Check o s report a x = ap (λ (y : Answer). y.status) x
+has_its_status ForCode o s report a x = ap (λ (y : Answer). y.status) x.tells
+has_its_status Show o s report a x = ap (λ (y : Answer). y.status) x
+has_its_status Table o s report a x = absurd x
+has_its_status (Sample k) o s report a x = absurd x
+has_its_status Audit o s report a x = tried x.trial a x.tells
+has_its_status (Replay count) o s report a x = tried x.trial a x.tells
 
 pub alone_is_done : (command : Command) (a : Answer) → AnswersAlone command a → a.status ≡ Done
 alone_is_done Table a x = ap (λ (y : Answer). y.status) x
@@ -169,3 +179,5 @@ alone_is_done (Serial stride) a x = absurd x
 alone_is_done Check a x = absurd x
 alone_is_done ForCode a x = absurd x
 alone_is_done Show a x = absurd x
+alone_is_done Audit a x = absurd x
+alone_is_done (Replay count) a x = absurd x

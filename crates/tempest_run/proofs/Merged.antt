@@ -16,7 +16,8 @@ use Rattle.journal.specs.Laws.{HistoryIsTold}
 use Rattle.sample_runs.specs.Samples.{sample_setup}
 use Rattle.sample_runs.specs.Summaries.{summary_under}
 use Rattle.sample_sums.specs.OneSummary.{SampleHasOneSummary}
-use Rattle.sound_runs.proofs.Sound.{stache_is_sound_to_its_end}
+use Rattle.sound_runs.specs.Shipped.{as_stache}
+use Rattle.sound_runs.proofs.Sound.{shipped_are_sound_to_their_end}
 use Rattle.sound_runs.proofs.Stamps.{stamps_are_sound}
 use Rattle.still_meaning.specs.Gathers.{GatheredShown}
 use Rattle.tempest_run.specs.declared.answer.Answer.{Answer}
@@ -48,7 +49,7 @@ tells_of_threads s o a j k r finals words history valid sorted told hj hf hw tel
   run = quiet_run s j r history valid told;
   sorted = sorted;
   one_memory = λ is. one_memory s j told.state valid is told.run told.tells.quiet;
-  sound = λ is. stache_is_sound_to_its_end s j told.state valid is told.run told.tells.quiet;
+  sound = λ is. shipped_are_sound_to_their_end s j told.state valid is told.run told.tells.quiet;
   counted = λ asked. told.counted;
   tells = tale s o j k told.state (λ i. (told.counts i).ops) (λ i. (told.counts i).records) finals words a hj (hf ∙ told.tells.finals)
       (hw ∙ told.tells.words) tells;
@@ -95,8 +96,8 @@ tells_of_sample k s j i r finals words broken text history one e valid is sorted
       state = told2.state;
       run = quiet_run sample j r history valid2 told2;
       sorted = sorted;
-      one_memory = one_memory sample j told2.state valid2 is2 told2.run told2.tells.quiet;
-      sound = stache_is_sound_to_its_end sample j told2.state valid2 is2 told2.run told2.tells.quiet;
+      one_memory = one_memory sample j told2.state valid2 (as_stache is2) told2.run told2.tells.quiet;
+      sound = shipped_are_sound_to_their_end sample j told2.state valid2 (as_stache is2) told2.run told2.tells.quiet;
       tells = tale;
       one = tale ∙ ap (λ (x : List ℕ). done x) (one k j told2.state told2.run told2.tells.quiet);
     }

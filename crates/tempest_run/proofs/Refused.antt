@@ -16,17 +16,20 @@ use Rattle.teapot_parse.specs.Laws.{LexedAreTextLines}
 use Rattle.teapot_parse.specs.Parsing.{parsed}
 use Rattle.teapot_parse.specs.Refusing.{Refuses}
 use Rattle.stache_protocol.specs.Laws.{TextIsStache}
+use Rattle.stache_d_protocol.specs.Laws.{TextIsStacheD}
+use Rattle.stache_l_protocol.specs.Laws.{TextIsStacheL}
 use Rattle.dsm_runs.specs.Setups.{Setup}
 use Rattle.tempest_input.specs.declared.error.InputError.{InputError}
 use Rattle.tempest_input.specs.declared.error.InputError.TheVariants.{Refused, Memory}
 use Rattle.tempest_input.specs.declared.error.Why.{Why}
 use Rattle.tempest_input.specs.declared.head.Shipped.{Shipped}
-use Rattle.tempest_input.specs.declared.head.Shipped.TheVariants.{Stache}
+use Rattle.tempest_input.specs.declared.head.Shipped.TheVariants.{Stache, StacheD, StacheL}
 use Rattle.tempest_input.specs.declared.layout.Body.{Body}
 use Rattle.tempest_input.specs.declared.layout.Choice.{Choice}
 use Rattle.tempest_input.specs.declared.layout.Choice.TheVariants as choices
+use Rattle.tempest_input.specs.declared.layout.Ending.{Ending}
 use Rattle.tempest_input.specs.Laws.{InputIsNoMemory, LayoutIsReadBothWays, RefusalIsOfAKind as EarlyIsOfAKind}
-use Rattle.tempest_input.specs.Settings.{Settings, settings_in}
+use Rattle.tempest_input.specs.Settings.{Settings, settings_and_report}
 use Rattle.tempest_run.specs.Inputs.{IsOfText, accepted, broken_rule, in_protocol, input_of, or_memory, protocol_of, section_protocol, shipped_protocol, under, unless_broken, unread}
 use Rattle.tempest_run.specs.Refusals.{HasSection, IsRefused, RefusalIsOfAKind, RefusalIsOne, TextIsNeverBoth, TextIsNoMemory, TextIsValidOrRefused, breaks, early, no_tree}
 use Rattle.tempest_run.proofs.Accepting.{first_broken}
@@ -43,25 +46,29 @@ pub record Laws : Type 0 where
   pub refuses : (lines : List Line) (after : ℕ) (e : ParseError) → parsed lines after ≡ Err e → Refuses lines after e
   pub refused : (lines : List Line) (after : ℕ) (e : ParseError) → Refuses lines after e → parsed lines after ≡ Err e
   pub stache : TextIsStache
+  pub stache_d : TextIsStacheD
+  pub stache_l : TextIsStacheL
 
 -- what comes of the settings of a text
-abbrev set_up : Result Settings InputError → Result Setup InputError
-set_up r = r >>= λ s. protocol_of s.protocol >>= λ p. Ok (under s p)
+abbrev set_up : Result (Settings × Body) InputError → Result (Setup × Body) InputError
+set_up r = r >>= λ i. protocol_of i.0.protocol >>= λ p. Ok (under i.0 p, i.1)
 
-abbrev joined : Settings → Result Protocol InputError → Result Setup InputError
-joined s r = r >>= λ p. Ok (under s p)
+abbrev joined : Settings × Body → Result Protocol InputError → Result (Setup × Body) InputError
+joined i r = r >>= λ p. Ok (under i.0 p, i.1)
 
-input-is : (text : List ℕ) → input_of text ≡ set_up (settings_in text)
+input-is : (ending : Ending) (text : List ℕ) → input_of ending text ≡ set_up (settings_and_report ending text)
 unfolding input_of
-input-is text = refl
+input-is ending text = refl
 
-joined-err : (s : Settings) (r : Result Protocol InputError) (e : InputError) → joined s r ≡ Err e → r ≡ Err e
-joined-err s (Ok p) e h = absurd (cc h)
-joined-err s (Err x) e h = let same : x ≡ e = cc h in ap Err same
+joined-err : (i : Settings × Body) (r : Result Protocol InputError) (e : InputError) → joined i r ≡ Err e → r ≡ Err e
+joined-err i (Ok p) e h = absurd (cc h)
+joined-err i (Err x) e h = let same : x ≡ e = cc h in ap Err same
 
--- the shipped protocol is there
-shipped-is : TextIsStache → (which : Shipped) (e : InputError) → shipped_protocol which ≡ Err e → ⊥
-shipped-is is Stache e h = let there = ap or_memory is.1 in absurd (cc (there, h))
+-- each shipped protocol is there
+shipped-is : Laws → (which : Shipped) (e : InputError) → shipped_protocol which ≡ Err e → ⊥
+shipped-is laws Stache e h = let there = ap or_memory laws.stache.1 in absurd (cc (there, h))
+shipped-is laws StacheD e h = let there = ap or_memory laws.stache_d.1 in absurd (cc (there, h))
+shipped-is laws StacheL e h = let there = ap or_memory laws.stache_l.1 in absurd (cc (there, h))
 
 -- ---- a refusal that is found is of a kind
 
@@ -77,12 +84,12 @@ accepted-is : (p : Protocol) (line : ℕ) (why : Why) → accepted p ≡ Err (Re
 unfolding accepted
 accepted-is p line why h = broken-is p (first_of_rules p all_rules) line why refl h
 
-section-back : Laws → (text : List ℕ) (body : Body) (line : ℕ) (why : Why) → HasSection text body → AreTextLines body.lines → section_protocol body ≡ Err (Refused line why)
-    → IsRefused text line why
+section-back : Laws → (ending : Ending) (text : List ℕ) (body : Body) (line : ℕ) (why : Why) → HasSection ending text body → AreTextLines body.lines → section_protocol body ≡ Err (Refused line why)
+    → IsRefused ending text line why
 unfolding section_protocol
-section-back laws text body line why has lines h = go (parsed body.lines body.end) refl h
+section-back laws ending text body line why has lines h = go (parsed body.lines body.end) refl h
   where
-    go : (r : Result Protocol ParseError) → parsed body.lines body.end ≡ r → (in_protocol r >>= λ p. accepted p) ≡ Err (Refused line why) → IsRefused text line why
+    go : (r : Result Protocol ParseError) → parsed body.lines body.end ≡ r → (in_protocol r >>= λ p. accepted p) ≡ Err (Refused line why) → IsRefused ending text line why
     go (Ok p) is f =
         let tree = laws.given body.lines p body.end lines is in
         let first = accepted-is p line why f in
@@ -91,34 +98,34 @@ section-back laws text body line why has lines h = go (parsed body.lines body.en
         let for : unread e ≡ Refused line why = cc f in
         no_tree body e has (laws.refuses body.lines body.end e is) for
 
-choice-back : Laws → (text : List ℕ) (s : Settings) (choice : Choice) (line : ℕ) (why : Why) → settings_in text ≡ Ok s → s.protocol ≡ choice → IsOfText choice
-    → protocol_of choice ≡ Err (Refused line why) → IsRefused text line why
+choice-back : Laws → (ending : Ending) (text : List ℕ) (s : Settings × Body) (choice : Choice) (line : ℕ) (why : Why) → settings_and_report ending text ≡ Ok s → s.0.protocol ≡ choice → IsOfText choice
+    → protocol_of choice ≡ Err (Refused line why) → IsRefused ending text line why
 unfolding protocol_of
-choice-back laws text s choices.Default line why is own lines h = absurd (shipped-is laws.stache Stache (Refused line why) h)
-choice-back laws text s (choices.Own l body) line why is own lines h =
-    section-back laws text body line why (record { settings = s; line = l; set = is; own = own }) lines h
-choice-back laws text s (choices.Shipped l which) line why is own lines h = absurd (shipped-is laws.stache which (Refused line why) h)
+choice-back laws ending text s choices.Default line why is own lines h = absurd (shipped-is laws Stache (Refused line why) h)
+choice-back laws ending text s (choices.Own l body) line why is own lines h =
+    section-back laws ending text body line why (record { settings = s.0; report = s.1; line = l; set = is; own = own }) lines h
+choice-back laws ending text s (choices.Shipped l which) line why is own lines h = absurd (shipped-is laws which (Refused line why) h)
 
-kind-back : Laws → (text : List ℕ) (line : ℕ) (why : Why) → input_of text ≡ Err (Refused line why) → IsRefused text line why
-kind-back laws text line why h = go (settings_in text) refl (sym (input-is text) ∙ h)
+kind-back : Laws → (ending : Ending) (text : List ℕ) (line : ℕ) (why : Why) → input_of ending text ≡ Err (Refused line why) → IsRefused ending text line why
+kind-back laws ending text line why h = go (settings_and_report ending text) refl (sym (input-is ending text) ∙ h)
   where
-    go : (r : Result Settings InputError) → settings_in text ≡ r → set_up r ≡ Err (Refused line why) → IsRefused text line why
+    go : (r : Result (Settings × Body) InputError) → settings_and_report ending text ≡ r → set_up r ≡ Err (Refused line why) → IsRefused ending text line why
     go (Ok s) is f =
-        choice-back laws text s s.protocol line why is refl (settings-of-text laws.text_lines laws.layout text s is)
-        (joined-err s (protocol_of s.protocol) (Refused line why) f)
+        choice-back laws ending text s s.0.protocol line why is refl (settings-of-text laws.text_lines laws.layout ending text s is)
+        (joined-err s (protocol_of s.0.protocol) (Refused line why) f)
     go (Err e) is f =
         let same : e ≡ Refused line why = cc f in
-        early ((laws.early text line why).0 (is ∙ ap Err same))
+        early ((laws.early ending text line why).0 (is ∙ ap Err same))
 
 -- ---- a refusal of a kind is found
 
-set-on : (text : List ℕ) (s : Settings) (r : Result Protocol InputError) → settings_in text ≡ Ok s → protocol_of s.protocol ≡ r → input_of text ≡ joined s r
-set-on text s r is own = input-is text ∙ ap set_up is ∙ ap (joined s) own
+set-on : (ending : Ending) (text : List ℕ) (s : Settings × Body) (r : Result Protocol InputError) → settings_and_report ending text ≡ Ok s → protocol_of s.0.protocol ≡ r → input_of ending text ≡ joined s r
+set-on ending text s r is own = input-is ending text ∙ ap set_up is ∙ ap (joined s) own
 
-section-on : (text : List ℕ) (body : Body) (r : Result Protocol InputError) (e : InputError) → HasSection text body → section_protocol body ≡ r → r ≡ Err e → input_of text ≡ Err e
+section-on : (ending : Ending) (text : List ℕ) (body : Body) (r : Result Protocol InputError) (e : InputError) → HasSection ending text body → section_protocol body ≡ r → r ≡ Err e → input_of ending text ≡ Err e
 unfolding protocol_of
-section-on text body r e has is h =
-    set-on text has.settings (section_protocol body) has.set (ap protocol_of has.own) ∙ ap (joined has.settings) (is ∙ h)
+section-on ending text body r e has is h =
+    set-on ending text (has.settings, has.report) (section_protocol body) has.set (ap protocol_of has.own) ∙ ap (joined (has.settings, has.report)) (is ∙ h)
 
 tree-on : Laws → (body : Body) (e : ParseError) → Refuses body.lines body.end e → section_protocol body ≡ Err (unread e)
 unfolding section_protocol
@@ -131,14 +138,14 @@ break-on laws body p line rule tree given first =
     ap (λ r. in_protocol r >>= λ p. accepted p) (laws.read body.lines p body.end tree given)
     ∙ ap (λ f. unless_broken f p) (first_broken p line rule tree first)
 
-kind-on : Laws → (text : List ℕ) (line : ℕ) (why : Why) → IsRefused text line why → input_of text ≡ Err (Refused line why)
-kind-on laws text line why (early h) = input-is text ∙ ap set_up ((laws.early text line why).1 h)
-kind-on laws text line why (no_tree body e has refuses for) = section-on text body (Err (unread e)) (Refused line why) has (tree-on laws body e refuses) (ap Err for)
-kind-on laws text line why (breaks body p rule has tree given first for) =
-    section-on text body (Err (Refused line (broken_rule rule))) (Refused line why) has (break-on laws body p line rule tree given first) (ap (λ w. Err (Refused line w)) (sym for))
+kind-on : Laws → (ending : Ending) (text : List ℕ) (line : ℕ) (why : Why) → IsRefused ending text line why → input_of ending text ≡ Err (Refused line why)
+kind-on laws ending text line why (early h) = input-is ending text ∙ ap set_up ((laws.early ending text line why).1 h)
+kind-on laws ending text line why (no_tree body e has refuses for) = section-on ending text body (Err (unread e)) (Refused line why) has (tree-on laws body e refuses) (ap Err for)
+kind-on laws ending text line why (breaks body p rule has tree given first for) =
+    section-on ending text body (Err (Refused line (broken_rule rule))) (Refused line why) has (break-on laws body p line rule tree given first) (ap (λ w. Err (Refused line w)) (sym for))
 
 pub kinds : Laws → RefusalIsOfAKind
-kinds laws text line why = (kind-back laws text line why, kind-on laws text line why)
+kinds laws ending text line why = (kind-back laws ending text line why, kind-on laws ending text line why)
 
 -- ---- want of memory is no property of a text
 
@@ -162,33 +169,34 @@ section-memory laws body h = go (parsed body.lines body.end) refl h
 
 choice-memory : Laws → (choice : Choice) → protocol_of choice ≡ Err Memory → ⊥
 unfolding protocol_of
-choice-memory laws choices.Default h = shipped-is laws.stache Stache Memory h
+choice-memory laws choices.Default h = shipped-is laws Stache Memory h
 choice-memory laws (choices.Own l body) h = section-memory laws body h
-choice-memory laws (choices.Shipped l which) h = shipped-is laws.stache which Memory h
+choice-memory laws (choices.Shipped l which) h = shipped-is laws which Memory h
 
 pub no-memory : Laws → TextIsNoMemory
-no-memory laws text h = go (settings_in text) refl (sym (input-is text) ∙ h)
+no-memory laws ending text h = go (settings_and_report ending text) refl (sym (input-is ending text) ∙ h)
   where
-    go : (r : Result Settings InputError) → settings_in text ≡ r → set_up r ≡ Err Memory → ⊥
-    go (Ok s) is f = choice-memory laws s.protocol (joined-err s (protocol_of s.protocol) Memory f)
-    go (Err e) is f = let same : e ≡ Memory = cc f in laws.no_memory text (is ∙ ap Err same)
+    go : (r : Result (Settings × Body) InputError) → settings_and_report ending text ≡ r → set_up r ≡ Err Memory → ⊥
+    go (Ok s) is f = choice-memory laws s.0.protocol (joined-err s (protocol_of s.0.protocol) Memory f)
+    go (Err e) is f = let same : e ≡ Memory = cc f in laws.no_memory ending text (is ∙ ap Err same)
 
 -- ---- one of the two, and one refusal
 
 pub valid_or_refused : Laws → TextIsValidOrRefused
-valid_or_refused laws text = go (input_of text) refl
+valid_or_refused laws ending text = go (input_of ending text) refl
   where
-    go : (r : Result Setup InputError) → input_of text ≡ r → ((s : Setup) × (input_of text ≡ Ok s)) ⊎ ((line : ℕ) × (why : Why) × IsRefused text line why)
-    go (Ok s) is = inl (s, is)
-    go (Err (Refused line why)) is = inr (line, why, kind-back laws text line why is)
-    go (Err Memory) is = absurd (no-memory laws text is)
+    go : (r : Result (Setup × Body) InputError) → input_of ending text ≡ r
+        → ((s : Setup) × (report : Body) × (input_of ending text ≡ Ok (s, report))) ⊎ ((line : ℕ) × (why : Why) × IsRefused ending text line why)
+    go (Ok s) is = inl (s.0, s.1, is)
+    go (Err (Refused line why)) is = inr (line, why, kind-back laws ending text line why is)
+    go (Err Memory) is = absurd (no-memory laws ending text is)
 
 pub never_both : Laws → TextIsNeverBoth
-never_both laws text s line why is refused = let other = kind-on laws text line why refused in absurd (cc (is, other))
+never_both laws ending text s report line why is refused = let other = kind-on laws ending text line why refused in absurd (cc (is, other))
 
 pub one_refusal : Laws → RefusalIsOne
-one_refusal laws text line other why reason a b =
-    let x = kind-on laws text line why a in
-    let y = kind-on laws text other reason b in
-    let same : ◌≡◌ {A = Result Setup InputError} (Err (Refused line why)) (Err (Refused other reason)) = sym x ∙ y in
+one_refusal laws ending text line other why reason a b =
+    let x = kind-on laws ending text line why a in
+    let y = kind-on laws ending text other reason b in
+    let same : ◌≡◌ {A = Result (Setup × Body) InputError} (Err (Refused line why)) (Err (Refused other reason)) = sym x ∙ y in
     (cc same, cc same)

@@ -19,7 +19,7 @@ use Rattle.still_meaning.specs.Laws.{WhatIsReadIsTheStates}
 use Rattle.still_meaning.specs.Reading.{end_at, tag_at, word_at}
 use Rattle.still_meaning.specs.Stills.{IsStill, StillShown, tallies}
 use Rattle.still_nodes.specs.Driving.{HasSettled}
-use Rattle.sound_runs.proofs.Sound.{stache_is_sound_to_its_end}
+use Rattle.sound_runs.proofs.Sound.{shipped_are_sound_to_their_end}
 use Rattle.sound_runs.proofs.Stamps.{stamps_are_sound}
 use Rattle.tempest_run.specs.declared.answer.Answer.{Answer}
 use Rattle.tempest_run.specs.Answering.{IsRun, TellsOfRun, report_answer, told_answer}
@@ -64,7 +64,7 @@ tells_of_run s stride o a j g counts runs ends told valid settles counted tells 
       counts = counts;
       run = record { schedule = settles; quiet_run = record { run = run; quiet = quiet; stamps = stamps_are_sound s j g valid run; history = told s j g valid run } };
       one_memory = λ is. one_memory s j g valid is run quiet;
-      sound = λ is. stache_is_sound_to_its_end s j g valid is run quiet;
+      sound = λ is. shipped_are_sound_to_their_end s j g valid is run quiet;
       counted = counted;
       tells = tells;
     }

@@ -11,12 +11,14 @@ use Rattle.teapot_parse.specs.Given.{AreTextLines}
 use Rattle.teapot_parse.specs.Laws.{LexedAreTextLines}
 use Rattle.tempest_input.specs.declared.layout.Choice.{Choice}
 use Rattle.tempest_input.specs.declared.layout.Choice.TheVariants as choices
+use Rattle.tempest_input.specs.declared.layout.Body.{Body}
+use Rattle.tempest_input.specs.declared.layout.Ending.{Ending}
 use Rattle.tempest_input.specs.declared.layout.Layout.{Layout}
 use Rattle.tempest_input.specs.declared.error.InputError.{InputError}
 use Rattle.tempest_input.specs.Laws.{IsChoice, IsLaidOut, LayoutIsReadBothWays}
 use Rattle.tempest_input.specs.Layout.{laid_out}
 use Rattle.tempest_input.specs.Numbers.{nodes_of, sizes_of, words_of}
-use Rattle.tempest_input.specs.Settings.{Settings, in_line, layout_of, parsed, settings_in, settings_of}
+use Rattle.tempest_input.specs.Settings.{Settings, in_line, layout_of, parsed, settings_and_report, settings_of}
 use Rattle.tempest_run.specs.Inputs.{IsOfText}
 
 each-behind : {X : Type 0} (P : X → Type 0) (front rest : List X) → Each P (front ++ rest) → Each P rest
@@ -34,11 +36,12 @@ own-of-text version (choices.Own line body) lines h all =
     each-front _ body.lines (h.closing ∷ []) inner.1
 own-of-text version (choices.Shipped line which) lines h all = tt
 
-section-of-text : (lines : List Line) (l : Layout) → AreTextLines lines → IsLaidOut lines l → IsOfText l.protocol
-section-of-text lines l all h =
-    let whole = subst AreTextLines h.lines_are all in
-    let behind = each-behind _ h.programs h.protocol (each-behind _ h.inits (h.programs ++ h.protocol) (each-behind _ h.budget (h.inits ++ (h.programs ++ h.protocol)) whole.1.1.1.1)) in
-    own-of-text l.version.value l.protocol h.protocol h.protocol_is behind
+section-of-text : (ending : Ending) (all : ℕ) (lines : List Line) (l : Layout) (report : Body) → AreTextLines lines → IsLaidOut ending all lines l report → IsOfText l.protocol
+section-of-text ending all lines l report are h =
+    let whole = subst AreTextLines h.lines_are are in
+    let rest = h.protocol ++ h.behind in
+    let behind = each-behind _ h.programs rest (each-behind _ h.inits (h.programs ++ rest) (each-behind _ h.budget (h.inits ++ (h.programs ++ rest)) whole.1.1.1.1)) in
+    own-of-text l.version.value l.protocol h.protocol h.protocol_is (each-front _ h.protocol h.behind behind)
 
 -- ---- what is found in a text
 
@@ -70,12 +73,17 @@ settings-protocol l s e =
     sym (ap (protocol_or l.protocol) programs.2)
 
 -- the section of a text's settings
-pub settings-of-text : LexedAreTextLines → LayoutIsReadBothWays → (text : List ℕ) (s : Settings) → settings_in text ≡ Ok s → IsOfText s.protocol
+pub settings-of-text : LexedAreTextLines → LayoutIsReadBothWays → (ending : Ending) (text : List ℕ) (i : Settings × Body) → settings_and_report ending text ≡ Ok i → IsOfText i.0.protocol
 unfolding layout_of
-settings-of-text lines layout text s e =
-    let laid = bind-ok (layout_of text) (λ l. settings_of l) s e in
-    let l : Layout = laid.0 in
-    let lexes = bind-ok (in_line (lexed text)) (λ found. laid_out found.all found.list) l laid.1 in
+settings-of-text lines layout ending text i e =
+    let laid = bind-ok (layout_of ending text) (λ l. settings_of l.0 >>= λ s. Ok (s, l.1)) i e in
+    let l : Layout × Body = laid.0 in
+    let set = bind-ok (settings_of l.0) (λ s. Ok (s, l.1)) i laid.2 in
+    let lexes = bind-ok (in_line (lexed text)) (λ found. laid_out ending found.all found.list) l laid.1 in
     let found : Lexed = lexes.0 in
-    let own = section-of-text found.list l (lines text found (in_line-ok (lexed text) found lexes.1)) ((layout found.all found.list l).0 lexes.2) in
-    subst IsOfText (sym (settings-protocol l s laid.2)) own
+    let own = section-of-text ending found.all found.list l.0 l.1 (lines text found (in_line-ok (lexed text) found lexes.1)) ((layout ending found.all found.list l.0 l.1).0 lexes.2) in
+    let here : IsOfText set.0.protocol = subst IsOfText (sym (settings-protocol l.0 set.0 set.1)) own in
+    subst (λ (x : Settings × Body). IsOfText x.0.protocol) (in_pair (set.0, l.1) i set.2) here
+  where
+    in_pair : (x y : Settings × Body) → ◌≡◌ {A = Result (Settings × Body) InputError} (Ok x) (Ok y) → x ≡ y
+    in_pair x y f = cc f

@@ -7,6 +7,9 @@ use Rattle.tempest_input.specs.declared.error.InputError.{InputError}
 use Rattle.tempest_input.specs.declared.error.InputError.TheVariants as errors
 use Rattle.tempest_input.specs.declared.error.Why.{Why}
 use Rattle.tempest_input.specs.declared.error.Why.TheVariants as why
+use Rattle.tempest_input.specs.declared.layout.Body.{Body}
+use Rattle.tempest_input.specs.declared.layout.Ending.{Ending}
+use Rattle.tempest_input.specs.declared.layout.Ending.TheVariants as endings
 use Rattle.tempest_words.specs.declared.request.Asked.{Asked}
 use Rattle.tempest_words.specs.declared.request.Command.{Command}
 use Rattle.tempest_words.specs.declared.request.Command.TheVariants as commands
@@ -35,10 +38,13 @@ use Rattle.counted_runs.specs.Counted.{HasCounts}
 use Rattle.sample_runs.specs.Samples.{sample_setup}
 use Rattle.sample_runs.specs.Summaries.{summary_text}
 use Rattle.sample_sums.specs.OneSummary.{one_summary}
+use Rattle.tempest_trials.specs.declared.trial.Trial.{Trial}
+use Rattle.tempest_trials.specs.declared.trial.Trial.TheVariants as trials
+use Rattle.tempest_trials.specs.Trials.{IsAudit, IsReplay}
 use Rattle.tempest_run.specs.declared.answer.Answer.{Answer}
 use Rattle.tempest_run.specs.declared.status.Status.{Status}
 use Rattle.tempest_run.specs.declared.status.Status.TheVariants as statuses
-use Rattle.stache_tree.specs.Tree.{IsStache}
+use Rattle.sound_runs.specs.Shipped.{IsShipped}
 use Rattle.sound_runs.specs.Sound.{IsSoundToItsEnd}
 use Rattle.sound_runs.specs.Stamps.{HasSoundStamps}
 use Rattle.stache_cases.specs.Text.{table_text}
@@ -83,15 +89,15 @@ told_answer s j finals words o = record { status = status_of finals; text = repo
 abbrev pub report_answer : Setup → List Entry → World → (ℕ → ℕ) → (ℕ → ℕ) → Options → Answer
 report_answer s j g ops records o = told_answer s j (counted_finals s g ops records) (words_of s g) o
 
--- The answer tells of the serial run of this stride; under the shipped protocol one memory explains it, and it is sound to its
+-- The answer tells of the serial run of this stride; under a shipped protocol one memory explains it, and it is sound to its
 -- end. Where counts are asked for, they are those of the compiled handlers beside the run.
 pub record TellsOfRun (s : Setup) (stride : ℕ) (o : Options) (a : Answer) : Type 0 where
   pub journal : List Entry
   pub state : World
   pub counts : ℕ → Tally
   pub run : IsSerialRun s stride journal state
-  pub one_memory : IsStache s.protocol → OneMemory s journal state
-  pub sound : IsStache s.protocol → IsSoundToItsEnd s journal state
+  pub one_memory : IsShipped s.protocol → OneMemory s journal state
+  pub sound : IsShipped s.protocol → IsSoundToItsEnd s journal state
   pub counted : o.counts ≡ true → HasCounts s journal state counts
   pub tells : a ≡ report_answer s journal state (λ i. (counts i).ops) (λ i. (counts i).records) o
 
@@ -105,8 +111,8 @@ pub record TellsOfThreads (s : Setup) (o : Options) (a : Answer) : Type 0 where
   pub counts : ℕ → Tally
   pub run : IsQuietRun s journal state
   pub sorted : IsSorted journal
-  pub one_memory : IsStache s.protocol → OneMemory s journal state
-  pub sound : IsStache s.protocol → IsSoundToItsEnd s journal state
+  pub one_memory : IsShipped s.protocol → OneMemory s journal state
+  pub sound : IsShipped s.protocol → IsSoundToItsEnd s journal state
   pub counted : o.counts ≡ true → HasCounts s journal state counts
   pub tells : a ≡ report_answer s journal state (λ i. (counts i).ops) (λ i. (counts i).records) o
 
@@ -184,6 +190,25 @@ pub record TellsOfCode (p : Protocol) (a : Answer) : Type 0 where
   pub is_code : IsCode p code
   pub tells : a ≡ code_answer p code
 
+-- ---- reports on trial
+
+-- a report that is denied has a status of its own
+abbrev pub trial_answer : Trial → Answer
+trial_answer (trials.Stands text) = record { status = statuses.Done; text = text }
+trial_answer (trials.Denied text) = record { status = statuses.Denied; text = text }
+
+-- The answer tells whether the report is explained by one flat memory.
+pub record TellsOfAudit (s : Setup) (report : Body) (a : Answer) : Type 0 where
+  pub trial : Trial
+  pub audit : IsAudit s report.end report.lines trial
+  pub tells : a ≡ trial_answer trial
+
+-- The answer tells what comes of so many events of the report.
+pub record TellsOfReplay (count : ℕ) (s : Setup) (report : Body) (a : Answer) : Type 0 where
+  pub trial : Trial
+  pub replay : IsReplay count s report.end report.lines trial
+  pub tells : a ≡ trial_answer trial
+
 -- ---- the answer
 
 -- a report has its journal and its counts where they are asked for
@@ -194,15 +219,17 @@ options_of asked = record { journal = asked.journal; counts = asked.counts }
 abbrev pub table_answer : Answer
 table_answer = record { status = statuses.Done; text = table_text }
 
--- the answer to a command that reads an input, where a text sets this up
-abbrev pub Answers : Command → Options → Setup → Answer → Type 0
-Answers commands.Run o s a = TellsOfThreads s o a
-Answers (commands.Serial stride) o s a = TellsOfRun s stride o a
-Answers commands.Check o s a = a ≡ check_answer s.protocol
-Answers commands.Code o s a = TellsOfCode s.protocol a
-Answers commands.Show o s a = a ≡ show_answer s.protocol
-Answers commands.Table o s a = ⊥
-Answers (commands.Sample k) o s a = ⊥
+-- the answer to a command that reads an input, where a text sets this up and has these lines of a report
+abbrev pub Answers : Command → Options → Setup → Body → Answer → Type 0
+Answers commands.Run o s report a = TellsOfThreads s o a
+Answers (commands.Serial stride) o s report a = TellsOfRun s stride o a
+Answers commands.Check o s report a = a ≡ check_answer s.protocol
+Answers commands.Code o s report a = TellsOfCode s.protocol a
+Answers commands.Show o s report a = a ≡ show_answer s.protocol
+Answers commands.Table o s report a = ⊥
+Answers (commands.Sample k) o s report a = ⊥
+Answers commands.Audit o s report a = TellsOfAudit s report a
+Answers (commands.Replay count) o s report a = TellsOfReplay count s report a
 
 -- the answer to a command that reads none
 abbrev pub AnswersAlone : Command → Answer → Type 0
@@ -213,10 +240,12 @@ AnswersAlone (commands.Serial stride) a = ⊥
 AnswersAlone commands.Check a = ⊥
 AnswersAlone commands.Code a = ⊥
 AnswersAlone commands.Show a = ⊥
+AnswersAlone commands.Audit a = ⊥
+AnswersAlone (commands.Replay count) a = ⊥
 
 -- the answer about what a text sets up, or its refusal
-abbrev pub AnswersIn : Command → Options → Result Setup InputError → Answer → Type 0
-AnswersIn command o (Ok s) a = Answers command o s a
+abbrev pub AnswersIn : Command → Options → Result (Setup × Body) InputError → Answer → Type 0
+AnswersIn command o (Ok i) a = Answers command o i.0 i.1 a
 AnswersIn command o (Err (errors.Refused number reason)) a = a ≡ refusal number reason
 AnswersIn command o (Err errors.Memory) a = ⊥
 
@@ -229,6 +258,20 @@ reads_input commands.Code = true
 reads_input commands.Show = true
 reads_input commands.Table = false
 reads_input (commands.Sample k) = false
+reads_input commands.Audit = true
+reads_input (commands.Replay count) = true
+
+-- where the layout of its input ends
+abbrev pub ending_of : Command → Ending
+ending_of commands.Run = endings.Text
+ending_of (commands.Serial stride) = endings.Text
+ending_of commands.Check = endings.Text
+ending_of commands.Code = endings.Text
+ending_of commands.Show = endings.Text
+ending_of commands.Table = endings.Text
+ending_of (commands.Sample k) = endings.Text
+ending_of commands.Audit = endings.Report
+ending_of (commands.Replay count) = endings.Report
 
 -- whether a command makes its run on threads
 abbrev pub is_threaded : Command → Bool
@@ -239,10 +282,12 @@ is_threaded commands.Code = false
 is_threaded commands.Show = false
 is_threaded commands.Table = false
 is_threaded (commands.Sample k) = true
+is_threaded commands.Audit = false
+is_threaded (commands.Replay count) = false
 
 -- about its input, or without one
 abbrev pub IsAnswerIf : Bool → Command → Options → List ℕ → Answer → Type 0
-IsAnswerIf true command o text a = AnswersIn command o (input_of text) a
+IsAnswerIf true command o text a = AnswersIn command o (input_of (ending_of command) text) a
 IsAnswerIf false command o text a = AnswersAlone command a
 
 -- The answer to a text, which a command that reads none does not look at. A serial run on the model is the same run as one on
@@ -254,6 +299,7 @@ IsAnswer asked text a = IsAnswerIf (reads_input asked.command) asked.command (op
 abbrev pub IsAnswered : Status → Type 0
 IsAnswered statuses.Done = Unit {0}
 IsAnswered statuses.Refused = Unit {0}
+IsAnswered statuses.Denied = Unit {0}
 IsAnswered statuses.Unfinished = Unit {0}
 IsAnswered statuses.Memory = ⊥
 IsAnswered statuses.Usage = ⊥

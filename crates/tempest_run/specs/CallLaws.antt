@@ -10,16 +10,18 @@ use Rattle.dsm_runs.specs.Locals.{Local}
 use Rattle.dsm_runs.specs.Outcomes.{outcome_of}
 use Rattle.dsm_runs.specs.Setups.{Setup}
 use Rattle.dsm_runs.specs.Worlds.{World}
-use Rattle.stache_tree.specs.Tree.{IsStache}
+use Rattle.sound_runs.specs.Shipped.{IsShipped}
 use Rattle.sound_runs.specs.Sound.{HasSpent, HasTrapped}
 use Rattle.journal.specs.declared.reports.Options.{Options}
+use Rattle.tempest_input.specs.declared.layout.Body.{Body}
+use Rattle.tempest_input.specs.declared.layout.Ending.{Ending}
 use Rattle.tempest_words.specs.declared.request.Asked.{Asked}
 use Rattle.tempest_words.specs.declared.request.Command.{Command}
 use Rattle.tempest_words.specs.declared.request.Command.TheVariants as commands
 use Rattle.tempest_run.specs.declared.answer.Answer.{Answer}
 use Rattle.tempest_run.specs.declared.status.Status.{Status}
 use Rattle.tempest_run.specs.declared.status.Status.TheVariants as statuses
-use Rattle.tempest_run.specs.Answering.{Answers, AnswersAlone, IsAnswer, IsQuietRun, options_of, reads_input, report_answer}
+use Rattle.tempest_run.specs.Answering.{Answers, AnswersAlone, IsAnswer, IsQuietRun, ending_of, options_of, reads_input, report_answer}
 use Rattle.tempest_run.specs.Calls.{IsDue, IsInput, TopCall, most_input, refused_length, refused_words}
 use Rattle.tempest_run.specs.Inputs.{input_of}
 
@@ -39,6 +41,7 @@ Says asked source source' sink sink' got statuses.WriteFault =
     Rose sink.faults sink'.faults × ((due : Status) × (text : List ℕ) × IsDue asked source source' got due text × AppendsPrefix sink.bytes sink'.bytes text)
 Says asked source source' sink sink' got statuses.Done = IsAnsweredWith asked source source' sink sink' got statuses.Done
 Says asked source source' sink sink' got statuses.Refused = IsAnsweredWith asked source source' sink sink' got statuses.Refused
+Says asked source source' sink sink' got statuses.Denied = IsAnsweredWith asked source source' sink sink' got statuses.Denied
 Says asked source source' sink sink' got statuses.Unfinished = IsAnsweredWith asked source source' sink sink' got statuses.Unfinished
 
 abbrev pub StatusesSay : Type 0
@@ -67,23 +70,23 @@ InputIsAnswered =
 
 -- ---- completeness
 
--- the source tells a text to its end, which sets this up
-pub record TellsOfSetup (source : Told) (s : Setup) : Type 0 where
+-- the source tells a text to its end, which ends so, sets this up, and has these lines of a report
+pub record TellsOfSetup (ending : Ending) (source : Told) (s : Setup) (report : Body) : Type 0 where
   pub text : List ℕ
   pub told : source.bytes ≡ Some text
   pub short : length text ≤ most_input
-  pub valid : input_of text ≡ Ok s
+  pub valid : input_of ending text ≡ Ok (s, report)
 
 -- some node is such
 abbrev pub SomeNode : Setup → World → (Local → Type 0) → Type 0
 SomeNode s g P = (i : ℕ) × (i < s.shape.nodes) × P (g.locals i)
 
--- The status of a report says how the nodes ended: 0 exactly where all have halted, 8 exactly where one has not. Under the
+-- The status of a report says how the nodes ended: 0 exactly where all have halted, 8 exactly where one has not. Under a
 -- shipped protocol that is exactly where one has trapped, or would go on and has made as many instruction events as it may.
 pub record SaysHowNodesEnded (s : Setup) (g : World) (status : Status) : Type 0 where
   pub done : (status ≡ statuses.Done) ↔ ((i : ℕ) → i < s.shape.nodes → outcome_of s (g.locals i) ≡ outcomes.Halted)
   pub unfinished : (status ≡ statuses.Unfinished) ↔ SomeNode s g (λ l. outcome_of s l ≢ outcomes.Halted)
-  pub under_stache : IsStache s.protocol → (status ≡ statuses.Unfinished) ↔ SomeNode s g (λ l. HasTrapped l ⊎ HasSpent s l)
+  pub under_shipped : IsShipped s.protocol → (status ≡ statuses.Unfinished) ↔ SomeNode s g (λ l. HasTrapped l ⊎ HasSpent s l)
 
 -- the answer is the report of a run of s to this state, and its status says how the nodes ended there
 pub record IsReport (s : Setup) (o : Options) (a : Answer) : Type 0 where
@@ -95,7 +98,7 @@ pub record IsReport (s : Setup) (o : Options) (a : Answer) : Type 0 where
   pub tells : a ≡ report_answer s journal state ops records o
   pub says : SaysHowNodesEnded s state a.status
 
--- the status of an answer to a command about s is 0, and of a report 0 or 8
+-- the status of an answer to a command about s is 0, of a report 0 or 8, and of a trial 0 or 7
 abbrev pub HasItsStatus : Command → Options → Setup → Answer → Type 0
 HasItsStatus commands.Run o s a = IsReport s o a
 HasItsStatus (commands.Serial stride) o s a = IsReport s o a
@@ -104,15 +107,17 @@ HasItsStatus commands.Code o s a = a.status ≡ statuses.Done
 HasItsStatus commands.Show o s a = a.status ≡ statuses.Done
 HasItsStatus commands.Table o s a = a.status ≡ statuses.Done
 HasItsStatus (commands.Sample k) o s a = a.status ≡ statuses.Done
+HasItsStatus commands.Audit o s a = (a.status ≡ statuses.Done) ⊎ (a.status ≡ statuses.Denied)
+HasItsStatus (commands.Replay count) o s a = (a.status ≡ statuses.Done) ⊎ (a.status ≡ statuses.Denied)
 
--- Where no end failed, a command is answered whose source tells a valid text, with status 0 or, where a report says so, 8; unless
--- memory ran out.
+-- Where no end failed, a command is answered whose source tells a valid text, with status 0 or, where a report says so, 8, or, where
+-- a report is denied, 7; unless memory ran out.
 abbrev pub ValidTextsAreAnswered : Type 0
 ValidTextsAreAnswered =
-    (q : Asked) (source source' sink sink' : Told) (result : Status) (s : Setup)
-    → TopCall (Some q) source source' sink sink' result → ¬ Rose source.faults source'.faults → ¬ Rose sink.faults sink'.faults → reads_input q.command ≡ true → TellsOfSetup source s
-    → (result ≡ statuses.Memory)
-    ⊎ ((a : Answer) × Answers q.command (options_of q) s a × HasItsStatus q.command (options_of q) s a × (result ≡ a.status)
+    (q : Asked) (source source' sink sink' : Told) (result : Status) (s : Setup) (report : Body)
+    → TopCall (Some q) source source' sink sink' result → ¬ Rose source.faults source'.faults → ¬ Rose sink.faults sink'.faults → reads_input q.command ≡ true
+    → TellsOfSetup (ending_of q.command) source s report → (result ≡ statuses.Memory)
+    ⊎ ((a : Answer) × Answers q.command (options_of q) s report a × HasItsStatus q.command (options_of q) s a × (result ≡ a.status)
     × Appends sink.bytes sink'.bytes a.text)
 
 -- Where no end failed, a command that reads no text is answered, with status 0, unless memory ran out.

@@ -11,17 +11,20 @@ use Rattle.teapot_tree.specs.declared.rule.Rule.TheVariants as rules
 use Rattle.teapot_rules.specs.declared.fault.Fault.{Fault}
 use Rattle.teapot_rules.specs.Firsts.{all_rules, first_of_rules}
 use Rattle.stache_protocol.specs.Shipped.{shipped}
+use Rattle.stache_d_protocol.specs.Shipped.{shipped_d}
+use Rattle.stache_l_protocol.specs.Shipped.{shipped_l}
 use Rattle.dsm_runs.specs.Setups.{Setup}
 use Rattle.tempest_input.specs.declared.error.InputError.{InputError}
 use Rattle.tempest_input.specs.declared.error.InputError.TheVariants as errors
 use Rattle.tempest_input.specs.declared.error.Why.{Why}
 use Rattle.tempest_input.specs.declared.error.Why.TheVariants as why
 use Rattle.tempest_input.specs.declared.head.Shipped.{Shipped}
-use Rattle.tempest_input.specs.declared.head.Shipped.TheVariants.{Stache}
+use Rattle.tempest_input.specs.declared.head.Shipped.TheVariants.{Stache, StacheD, StacheL}
 use Rattle.tempest_input.specs.declared.layout.Body.{Body}
 use Rattle.tempest_input.specs.declared.layout.Choice.{Choice}
 use Rattle.tempest_input.specs.declared.layout.Choice.TheVariants as choices
-use Rattle.tempest_input.specs.Settings.{Settings, settings_in}
+use Rattle.tempest_input.specs.declared.layout.Ending.{Ending}
+use Rattle.tempest_input.specs.Settings.{Settings, settings_and_report}
 
 -- what the lines of a protocol are refused for
 abbrev pub unread : ParseError → InputError
@@ -67,6 +70,8 @@ or_memory None = Err errors.Memory
 -- a protocol that is shipped, by its name
 abbrev pub shipped_protocol : Shipped → Result Protocol InputError
 shipped_protocol Stache = or_memory shipped
+shipped_protocol StacheD = or_memory shipped_d
+shipped_protocol StacheL = or_memory shipped_l
 
 -- the protocol of the text's section, or the one that it names, else Stache
 unfoldable pub protocol_of : Choice → Result Protocol InputError
@@ -84,7 +89,11 @@ IsOfText (choices.Shipped line which) = Unit {0}
 abbrev pub under : Settings → Protocol → Setup
 under s p = record { version = s.version; shape = s.shape; init = s.init; programs = s.programs; protocol = p }
 
--- What a text sets up, or its first fault: first of its tokens, then of its layout, of its numbers, of its programs, and of
--- its protocol.
-unfoldable pub input_of : List ℕ → Result Setup InputError
-input_of text = settings_in text >>= λ s. protocol_of s.protocol >>= λ p. Ok (under s p)
+-- What a text sets up and the lines of its report, or its first fault: first of its tokens, then of its layout, of its numbers, of its
+-- programs, and of its protocol.
+unfoldable pub input_of : Ending → List ℕ → Result (Setup × Body) InputError
+input_of ending text = settings_and_report ending text >>= λ i. protocol_of i.0.protocol >>= λ p. Ok (under i.0 p, i.1)
+
+-- what a text without a report sets up
+abbrev pub setup_in : Result (Setup × Body) InputError → Result Setup InputError
+setup_in input = input >>= λ i. Ok i.0

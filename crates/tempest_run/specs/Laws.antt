@@ -15,6 +15,8 @@ has_many_answers commands.Code = false
 has_many_answers commands.Show = false
 has_many_answers commands.Table = false
 has_many_answers (commands.Sample k) = false
+has_many_answers commands.Audit = false
+has_many_answers (commands.Replay count) = false
 
 -- The status and the text are a function of the words and the input, but for `run`: a sample is run on threads too, and has one
 -- summary.

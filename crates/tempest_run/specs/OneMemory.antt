@@ -1,4 +1,4 @@
--- What is told of a run under the shipped protocol.
+-- What is told of a run under a protocol that keeps one memory.
 use Rattle.std.specs.Prelude.{◌≡◌, List, None}
 use Rattle.tw_base.specs.declared.entry.Entry.{Entry}
 use Rattle.dsm_runs.specs.Setups.{Setup}

@@ -2,11 +2,11 @@ ghost use Rattle.std.specs.Prelude.{◌≡◌, ◌+◌, ◌^◌, ◌<◌, true, 
 ghost use Rattle.std.specs.List.{list_all};
 ghost use Rattle.dsm_runs.specs.Setups.{IsSetup};
 ghost use Rattle.journal.specs.History.{first_break};
-ghost use Rattle.tempest_run.specs.Answering.{Answers, AnswersAlone, IsAnswer, IsRun, TellsOfCode, TellsOfRun, has_halted, is_threaded, options_of, reads_input, refusal, show_answer, status_of, table_answer, told_answer, why_text};
+ghost use Rattle.tempest_run.specs.Answering.{Answers, AnswersAlone, IsAnswer, IsRun, TellsOfAudit, TellsOfCode, TellsOfReplay, TellsOfRun, ending_of, has_halted, is_threaded, options_of, reads_input, refusal, show_answer, status_of, table_answer, told_answer, trial_answer, why_text};
 
 use crate::accepted::check_answer;
 use crate::given::reads_input;
-use crate::input::read_input;
+use crate::input::read_with_report;
 use crate::status::Status;
 use code_text::code_text;
 use dsm_model::{Global, settle};
@@ -20,7 +20,8 @@ use still_nodes::Still;
 use suspend_split::split;
 use teapot_print::print;
 use teapot_tree::Checked;
-use tempest_input::{InputError, Why};
+use tempest_input::{Body, Ending, InputError, Why};
+use tempest_trials::{Trial, audited, replayed};
 use tempest_words::{Asked, Command};
 use tw_base::{Entry, Listed, Memory};
 
@@ -232,6 +233,43 @@ fn table_answer(alloc: alloc::Global) -> Result<Answer, Memory>
     })
 }
 
+// A report that is denied has a status of its own.
+fn trial_answer(trial: Trial) -> Answer
+    ensures { result ≡ trial_answer trial }
+{
+    match trial {
+        Trial::Stands(text) => Answer {
+            status: Status::Done,
+            text,
+        },
+        Trial::Denied(text) => Answer {
+            status: Status::Denied,
+            text,
+        },
+    }
+}
+
+// Whether a report is explained by one flat memory.
+fn audit_answer(alloc: alloc::Global, setup: &Setup, report: &Body) -> Result<Answer, Memory>
+    ensures { IfOk result (λ a. TellsOfAudit setup.now report.now a) }
+{
+    let trial = audited(alloc, setup, report.lines.items(), report.end)?;
+    Ok(trial_answer(trial))
+}
+
+// What comes of so many events of a report.
+fn replay_answer(
+    alloc: alloc::Global,
+    setup: &Setup,
+    report: &Body,
+    count: u32,
+) -> Result<Answer, Memory>
+    ensures { IfOk result (λ a. TellsOfReplay count setup.now report.now a) }
+{
+    let trial = replayed(alloc, setup, report.lines.items(), report.end, count)?;
+    Ok(trial_answer(trial))
+}
+
 /// What a report is to have.
 pub fn options_of(asked: Asked) -> Options
     ensures { result ≡ options_of asked }
@@ -242,17 +280,24 @@ pub fn options_of(asked: Asked) -> Options
     }
 }
 
-// The answer where a text sets this up.
-fn answer_about(alloc: alloc::Global, asked: Asked, setup: &Setup) -> Result<Answer, Memory>
+// The answer where a text sets this up and has these lines of a report.
+fn answer_about(
+    alloc: alloc::Global,
+    asked: Asked,
+    setup: &Setup,
+    report: &Body,
+) -> Result<Answer, Memory>
     requires reads { reads_input asked.command ≡ true }
     requires plain { is_threaded asked.command ≡ false }
-    ensures { IfOk result (λ a. Answers asked.command (options_of asked) setup.now a) }
+    ensures { IfOk result (λ a. Answers asked.command (options_of asked) setup.now report.now a) }
 {
     match asked.command {
         Command::Serial(stride) => report_answer(alloc, setup, stride, asked),
         Command::Check => check_answer(alloc, setup.protocol()),
         Command::Code => code_answer(alloc, setup.protocol()),
         Command::Show => show_answer(alloc, setup.protocol()),
+        Command::Audit => audit_answer(alloc, setup, report),
+        Command::Replay(count) => replay_answer(alloc, setup, report, count),
         Command::Run | Command::Table | Command::Sample(_) => unreachable!(),
     }
 }
@@ -267,6 +312,18 @@ fn answer_alone(alloc: alloc::Global, command: Command) -> Result<Answer, Memory
         Command::Table => table_answer(alloc),
         Command::Run | Command::Serial(_) => unreachable!(),
         Command::Check | Command::Code | Command::Show | Command::Sample(_) => unreachable!(),
+        Command::Audit | Command::Replay(_) => unreachable!(),
+    }
+}
+
+// Where the layout of a command's input ends.
+fn ending_of(command: Command) -> Ending
+    ensures { result ≡ ending_of command }
+{
+    match command {
+        Command::Run | Command::Serial(_) | Command::Sample(_) => Ending::Text,
+        Command::Check | Command::Code | Command::Show | Command::Table => Ending::Text,
+        Command::Audit | Command::Replay(_) => Ending::Report,
     }
 }
 
@@ -279,8 +336,8 @@ pub fn answer_to(alloc: alloc::Global, asked: Asked, text: &[u8]) -> Result<Answ
     if !reads_input(asked.command) {
         return answer_alone(alloc, asked.command);
     }
-    match read_input(alloc, text) {
-        Ok(setup) => answer_about(alloc, asked, &setup),
+    match read_with_report(alloc, ending_of(asked.command), text) {
+        Ok((setup, report)) => answer_about(alloc, asked, &setup, &report),
         Err(InputError::Refused { line, why }) => refusal(alloc, line, why),
         Err(InputError::Memory) => Err(Memory),
     }

@@ -17,6 +17,7 @@ pub fn is_threaded(command: Command) -> bool
         Command::Serial(_) | Command::Check | Command::Code | Command::Show | Command::Table => {
             false
         }
+        Command::Audit | Command::Replay(_) => false,
     }
 }
 

@@ -35,6 +35,7 @@ pub fn reads_input(command: Command) -> bool
     match command {
         Command::Run | Command::Serial(_) => true,
         Command::Check | Command::Code | Command::Show => true,
+        Command::Audit | Command::Replay(_) => true,
         Command::Table | Command::Sample(_) => false,
     }
 }

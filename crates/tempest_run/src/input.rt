@@ -1,18 +1,22 @@
 ghost use Rattle.std.specs.Prelude.{◌≡◌, ◌+◌, ◌^◌, ◌<◌, length};
+ghost use Rattle.tempest_input.specs.declared.layout.Ending.TheVariants.{Text};
 ghost use Rattle.tw_base.specs.Answers.{Gives};
 ghost use Rattle.teapot_tree.specs.Grammar.{IsTree};
 ghost use Rattle.teapot_parse.specs.Given.{AreTextLines};
 ghost use Rattle.tempest_input.specs.Layout.{is_memory};
-ghost use Rattle.tempest_run.specs.Inputs.{IsOfText, accepted, broken_rule, input_of, protocol_of, section_protocol, shipped_protocol, under};
+ghost use Rattle.tempest_run.specs.Inputs.{IsOfText, accepted, broken_rule, input_of, protocol_of, section_protocol, setup_in, shipped_protocol, under};
 
 use dsm_runs::Setup;
+use stache_d_protocol::stache_d;
+use stache_l_protocol::stache_l;
 use stache_protocol::stache;
 use std::alloc::Global;
 use teapot_check::{CheckError, check};
 use teapot_parse::{ParseError, parse, read_trees_are_given, texts_have_text_lines};
 use teapot_tree::{Checked, Protocol, Rule};
 use tempest_input::{
-    Body, Choice, InputError, Settings, Shipped, Why, layout_is_read_both_ways, settings_in,
+    Body, Choice, Ending, InputError, Settings, Shipped, Why, layout_is_read_both_ways,
+    settings_and_report,
 };
 
 fn refused(line: u32, why: Why) -> InputError
@@ -72,6 +76,8 @@ fn shipped_protocol(alloc: Global, which: Shipped) -> Result<Checked, InputError
 {
     match which {
         Shipped::Stache => Ok(stache(alloc)?),
+        Shipped::StacheD => Ok(stache_d(alloc)?),
+        Shipped::StacheL => Ok(stache_l(alloc)?),
     }
 }
 
@@ -97,15 +103,28 @@ fn under(settings: Settings, protocol: Checked) -> Setup
     Setup::new(version, shape, init, programs, protocol)
 }
 
-/// What a text sets up, or its first fault. The text has at most 1,048,576 bytes.
+/// What a text sets up and the lines of its report, or its first fault.
 #[tactic(auto, unfolding(crate::specs::Inputs::input_of))]
-pub fn read_input(alloc: Global, text: &[u8]) -> Result<Setup, InputError>
+pub fn read_with_report(
+    alloc: Global,
+    ending: Ending,
+    text: &[u8],
+) -> Result<(Setup, Body), InputError>
     requires { length text.now + 2 < 2 ^ 32 }
-    ensures { Gives is_memory (λ setup. setup) result (input_of text.now) }
+    ensures { Gives is_memory (λ input. input) result (input_of ending text.now) }
 {
     texts_have_text_lines();
     layout_is_read_both_ways();
-    let settings = settings_in(alloc, text)?;
+    let (settings, report) = settings_and_report(alloc, ending, text)?;
     let protocol = protocol_of(alloc, settings.protocol())?;
-    Ok(under(settings, protocol))
+    Ok((under(settings, protocol), report))
+}
+
+/// What a text without a report sets up, or its first fault. The text has at most 1,048,576 bytes.
+pub fn read_input(alloc: Global, text: &[u8]) -> Result<Setup, InputError>
+    requires { length text.now + 2 < 2 ^ 32 }
+    ensures { Gives is_memory (λ setup. setup) result (setup_in (input_of Text text.now)) }
+{
+    let (setup, _) = read_with_report(alloc, Ending::Text, text)?;
+    Ok(setup)
 }

@@ -17,6 +17,8 @@ pub enum Status {
     TooLong,
     /// The input is not valid, or not served.
     Refused,
+    /// The report behind the input is denied.
+    Denied,
     /// A report was written, and a node has not halted.
     Unfinished,
 }
@@ -34,6 +36,7 @@ impl Status {
             Status::WriteFault => 4,
             Status::TooLong => 5,
             Status::Refused => 6,
+            Status::Denied => 7,
             Status::Unfinished => 8,
         }
     }

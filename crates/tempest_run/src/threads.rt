@@ -7,7 +7,7 @@ ghost use Rattle.tempest_run.specs.Calls.{IsDueFor, IsShort, IsText, TopCall, to
 use crate::answer::{Answer, answer_to, break_of, options_of, refusal, told_answer};
 use crate::due::{Due, write_due};
 use crate::given::{Given, Stopped, read_given};
-use crate::input::read_input;
+use crate::input::read_with_report;
 use crate::status::Status;
 use dsm_runs::Setup;
 use journal::{Options, history_is_told, merge};
@@ -19,7 +19,7 @@ use std::sync::Wait;
 use std::thread::Threads;
 use still_nodes::Gathered;
 use suspend_split::split;
-use tempest_input::InputError;
+use tempest_input::{Ending, InputError};
 use tempest_words::{Asked, Command};
 use tw_base::{Entry, Listed, Memory};
 use tw_io::{Sink, Source};
@@ -116,8 +116,8 @@ fn run_to<R: Threads + Wait + Sync, G: Gate + Sync>(
     requires run { asked.command ≡ Command.Run }
     ensures { IfOk result (λ a. IsAnswer asked text.now a) }
 {
-    match read_input(alloc, text) {
-        Ok(setup) => run_answer(rt, alloc, &setup, gate, asked.batch, options_of(asked)),
+    match read_with_report(alloc, Ending::Text, text) {
+        Ok((setup, _)) => run_answer(rt, alloc, &setup, gate, asked.batch, options_of(asked)),
         Err(InputError::Refused { line, why }) => refusal(alloc, line, why),
         Err(InputError::Memory) => Err(Memory),
     }
@@ -140,6 +140,7 @@ fn threads_answer<R: Threads + Wait + Sync, G: Gate + Sync>(
         Command::Serial(_) | Command::Check | Command::Code | Command::Show | Command::Table => {
             answer_to(alloc, asked, text)
         }
+        Command::Audit | Command::Replay(_) => answer_to(alloc, asked, text),
     }
 }
 

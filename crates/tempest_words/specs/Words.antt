@@ -30,13 +30,15 @@ plain_command w =
     (if bytes_eq w (codes "check") then Some commands.Check else
     (if bytes_eq w (codes "code") then Some commands.Code else
     (if bytes_eq w (codes "show") then Some commands.Show else
-    (if bytes_eq w (codes "table") then Some commands.Table else None))))
+    (if bytes_eq w (codes "table") then Some commands.Table else
+    (if bytes_eq w (codes "audit") then Some commands.Audit else None)))))
 
 -- of those that take one
 abbrev pub numbered_command : List ℕ → ℕ → Option Command
 numbered_command w n =
     if bytes_eq w (codes "serial") then Some (commands.Serial n) else
-    (if bytes_eq w (codes "sample") then Some (commands.Sample n) else None)
+    (if bytes_eq w (codes "sample") then Some (commands.Sample n) else
+    (if bytes_eq w (codes "replay") then Some (commands.Replay n) else None))
 
 abbrev pub command_by : List ℕ → Option (List ℕ) → Option Command
 command_by w None = plain_command w
@@ -59,6 +61,8 @@ takes_options commands.Check l = not (is_some l.batch) && not (has_report_option
 takes_options commands.Code l = not (is_some l.batch) && not (has_report_option l)
 takes_options commands.Show l = not (is_some l.batch) && not (has_report_option l)
 takes_options commands.Table l = not (is_some l.batch) && not (has_report_option l)
+takes_options commands.Audit l = not (is_some l.batch) && not (has_report_option l)
+takes_options (commands.Replay events) l = not (is_some l.batch) && not (has_report_option l)
 
 abbrev pub with_options : Line → Command → ℕ → Option Asked
 with_options l command batch =

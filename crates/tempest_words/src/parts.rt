@@ -59,6 +59,8 @@ fn plain_command(word: &str) -> Option<Command>
         Some(Command::Show)
     } else if word == "table" {
         Some(Command::Table)
+    } else if word == "audit" {
+        Some(Command::Audit)
     } else {
         None
     }
@@ -72,6 +74,8 @@ fn numbered_command(word: &str, number: u32) -> Option<Command>
         Some(Command::Serial(number))
     } else if word == "sample" {
         Some(Command::Sample(number))
+    } else if word == "replay" {
+        Some(Command::Replay(number))
     } else {
         None
     }
@@ -107,6 +111,7 @@ impl Parts<'_> {
             Command::Check | Command::Code | Command::Show | Command::Table => {
                 self.batch.is_none() && !reports
             }
+            Command::Audit | Command::Replay(_) => self.batch.is_none() && !reports,
         }
     }
 

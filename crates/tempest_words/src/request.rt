@@ -15,6 +15,10 @@ pub enum Command {
     Table,
     /// Run the sample of this number on threads. It reads no input.
     Sample(u32),
+    /// Judge the report behind the input by one flat memory.
+    Audit,
+    /// Make so many events of the report behind the input anew.
+    Replay(u32),
 }
 
 /// What the words ask for: a command, whether the report has its journal and its counts, whether the run is to be made on the

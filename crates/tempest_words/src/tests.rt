@@ -127,7 +127,22 @@ sample 5 --journal => nothing
 sample 5 --counts => nothing
 sample 5 --meaning => nothing
 sample 5 5 => nothing
-sample five => nothing";
+sample five => nothing
+audit => audit
+audit 0 => nothing
+audit --journal => nothing
+audit --batch 5 => nothing
+-- audit => audit
+replay => nothing
+replay 0 => replay:0
+replay 03 => replay:3
+replay 4294967295 => replay:4294967295
+replay 4294967296 => nothing
+replay 3 --journal => nothing
+replay 3 --counts => nothing
+replay 3 --batch=5 => nothing
+replay 3 4 => nothing
+replay three => nothing";
 
 fn words(alloc: Global, line: &str) -> Result<Vec<String>, Fail> {
     let mut words = Vec::new(alloc);
@@ -147,8 +162,10 @@ fn command(alloc: Global, asked: Asked) -> Result<String, Fail> {
         Command::Code => Ok(String::from_str(alloc, "code")?),
         Command::Show => Ok(String::from_str(alloc, "show")?),
         Command::Table => Ok(String::from_str(alloc, "table")?),
+        Command::Audit => Ok(String::from_str(alloc, "audit")?),
         Command::Serial(stride) => Ok(format!(in alloc; "serial:{stride}")?),
         Command::Sample(number) => Ok(format!(in alloc; "sample:{number}/{batch}")?),
+        Command::Replay(events) => Ok(format!(in alloc; "replay:{events}")?),
     }
 }
 

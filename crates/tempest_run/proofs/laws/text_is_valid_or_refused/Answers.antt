@@ -13,5 +13,7 @@ returns c =
       refuses = c.refusals_are_first.ensures;
       refused = c.refusals_are_exact.ensures;
       stache = c.shipped_text_is_stache.ensures;
+      stache_d = c.text_is_stache_d.ensures;
+      stache_l = c.text_is_stache_l.ensures;
     } in
     record { some = valid_or_refused laws; apart = never_both laws; one = one_refusal laws; kinds = kinds laws; no_memory = no-memory laws }

@@ -1,7 +1,0 @@
-use Rattle.tempest_run.proofs.Sections.{settings-of-text}
-use Rattle.tempest_run.proofs.input.read_input.Goals as goal
-
-pub protocol_of-requires : goal.protocol_of-requires
-protocol_of-requires c =
-    let own = settings-of-text c.texts_have_text_lines.ensures c.layout_is_read_both_ways.ensures _ _ c.in_ok-settings.ensures in
-    rw c.protocol.ensures own

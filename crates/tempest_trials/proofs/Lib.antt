@@ -1,0 +1,2 @@
+mod NoMemory
+mod Ones
