@@ -1,28 +1,39 @@
-use crate::reading::{make, setup};
-use coherence_check::coherent;
+use crate::reading::{make, setup, verdict};
 use driven_rows::{
-    DEFERRED, DEFERRED_EVENTS, LAPSED, LAPSED_EVENTS, TWO_RESTS, TWO_RESTS_EVENTS, WRITERS,
-    WRITERS_EVENTS,
+    COPY_KEPT, COPY_KEPT_EVENTS, DEFERRED, DEFERRED_EVENTS, LAPSED, LAPSED_EVENTS, TWO_RESTS,
+    TWO_RESTS_EVENTS, WRITERS, WRITERS_EVENTS,
 };
 use dsm_model::Global;
+use stache_check::Directory;
+use stache_d_protocol::stache_d;
 use stache_protocol::stache;
 use std::alloc;
 use std::process::Abort;
 use std::test::Fail;
-use tw_base::Listed;
+use teapot_tree::Checked;
+use tw_base::{Listed, Memory};
+
+// The protocol by its name.
+fn protocol(alloc: alloc::Global, directory: Directory) -> Result<Checked, Memory> {
+    match directory {
+        Directory::Stache => stache(alloc),
+        Directory::StacheD => stache_d(alloc),
+    }
+}
 
 // The state is coherent at the start and after each of so many events.
 fn stays_coherent(
     rt: &impl Abort,
     alloc: alloc::Global,
+    directory: Directory,
     text: &str,
     events: &str,
     due: usize,
 ) -> Result<(), Fail> {
-    let setup = setup(alloc, text, stache(alloc)?)?;
+    let setup = setup(alloc, text, protocol(alloc, directory)?)?;
     let mut g = Global::new(alloc, &setup)?;
     let mut entries = Listed::new(alloc);
-    assert_eq!(rt; coherent(g.setup(), &g), Ok(()));
+    assert_eq!(rt; verdict(directory, &g), Ok(()));
     for row in events.split('\n') {
         if row.starts_with("W") {
             continue;
@@ -30,7 +41,7 @@ fn stays_coherent(
         let (asked, due) = row.split_once(": ").unwrap_or((row, "made"));
         let made = make(alloc, &mut g, asked, &mut entries)?;
         assert_eq!(rt; made.as_str(), due, "at {row}");
-        assert_eq!(rt; coherent(g.setup(), &g), Ok(()), "after {row}");
+        assert_eq!(rt; verdict(directory, &g), Ok(()), "after {row}");
     }
     assert_eq!(rt; entries.len(), due);
     Ok(())
@@ -39,8 +50,16 @@ fn stays_coherent(
 #[test]
 fn runs_under_stache_are_coherent(rt: HostRuntime) -> Result<(), Fail> {
     let alloc = rt.alloc();
-    stays_coherent(&rt, alloc, WRITERS, WRITERS_EVENTS, 26)?;
-    stays_coherent(&rt, alloc, DEFERRED, DEFERRED_EVENTS, 20)?;
-    stays_coherent(&rt, alloc, LAPSED, LAPSED_EVENTS, 8)?;
-    stays_coherent(&rt, alloc, TWO_RESTS, TWO_RESTS_EVENTS, 22)
+    let own = Directory::Stache;
+    stays_coherent(&rt, alloc, own, WRITERS, WRITERS_EVENTS, 26)?;
+    stays_coherent(&rt, alloc, own, DEFERRED, DEFERRED_EVENTS, 20)?;
+    stays_coherent(&rt, alloc, own, LAPSED, LAPSED_EVENTS, 8)?;
+    stays_coherent(&rt, alloc, own, TWO_RESTS, TWO_RESTS_EVENTS, 22)
+}
+
+#[test]
+fn a_run_under_stache_d_is_coherent(rt: HostRuntime) -> Result<(), Fail> {
+    let alloc = rt.alloc();
+    let own = Directory::StacheD;
+    stays_coherent(&rt, alloc, own, COPY_KEPT, COPY_KEPT_EVENTS, 16)
 }

@@ -1,5 +1,5 @@
-//! Tests of coherence on one state: runs under Stache are coherent after each event, and runs under protocols that are
-//! Stache but for one edit break each of its parts. It has no code of its own.
+//! Tests of coherence on one state: runs under Stache and Stache_D are coherent after each event, and runs under protocols that
+//! are one of them but for one edit break its parts. It has no code of its own.
 #![tactic(auto)]
 
 #[cfg(test)]

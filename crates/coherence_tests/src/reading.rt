@@ -1,7 +1,9 @@
 ghost use Rattle.dsm_model.specs.Globals.{setup_of, world_of};
 ghost use Rattle.dsm_runs.specs.Worlds.{IsEnabled};
 
+use coherence_check::{Broken, coherent, coherent_d};
 use dsm_model::{Global, Setup, enabled, step};
+use stache_check::Directory;
 use std::alloc;
 use std::test::Fail;
 use teapot_check::check;
@@ -21,6 +23,14 @@ pub fn protocol(alloc: alloc::Global, text: &[u8]) -> Result<Checked, Fail> {
     let found = lines(alloc, text)?;
     let protocol = parse(alloc, found.list.items(), found.all)?;
     Ok(check(alloc, protocol)?)
+}
+
+/// Whether a state is coherent under a protocol.
+pub fn verdict(directory: Directory, g: &Global) -> Result<(), Broken> {
+    match directory {
+        Directory::Stache => coherent(g.setup(), g),
+        Directory::StacheD => coherent_d(g.setup(), g),
+    }
 }
 
 /// What a text sets up, under a protocol.

@@ -47,6 +47,7 @@ fn status(name: &str) -> Result<Status, Fail> {
         "Done" => Ok(Status::Done),
         "Unfinished" => Ok(Status::Unfinished),
         "Refused" => Ok(Status::Refused),
+        "Denied" => Ok(Status::Denied),
         _ => Err(Fail::new("a status of another name")),
     }
 }

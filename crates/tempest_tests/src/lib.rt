@@ -15,3 +15,5 @@ mod runs;
 mod tables;
 #[cfg(test)]
 mod texts;
+#[cfg(test)]
+mod trials;
