@@ -1,5 +1,5 @@
 -- The words that are no names.
-use Rattle.std.specs.Prelude.{ℕ, ◌&&◌, ◌==◌, codes, if◌then◌else◌, List, [], ◌∷◌, Option, Some, None}
+use Rattle.std.specs.Prelude.{ℕ, ◌&&◌, ◌==◌, codes, if◌then◌else◌, List, [], ◌∷◌, ◌++◌, Bool, false, Option, Some, None}
 use Rattle.std.specs.Str.{bytes_eq}
 use Rattle.teapot_tree.specs.declared.keyword.Keyword.{Keyword}
 use Rattle.teapot_tree.specs.declared.keyword.Keyword.TheVariants as k
@@ -127,20 +127,21 @@ abbrev pub spelled : List (List ℕ × Keyword) → List ℕ → Option Keyword 
 spelled [] word other = other
 spelled (w ∷ ws) word other = if bytes_eq word w.0 then Some w.1 else spelled ws word other
 
-unfoldable pub heading : List ℕ → Option Keyword
-heading word = spelled heading_words word None
+-- the words of both profiles
+abbrev pub common_words : List (List ℕ × Keyword)
+common_words = heading_words ++ statement_words ++ type_words ++ value_words ++ other_words
 
-unfoldable pub statement : List ℕ → Option Keyword
-statement word = spelled statement_words word None
+abbrev pub begins : ℕ → List ℕ → Bool
+begins letter [] = false
+begins letter (b ∷ bs) = letter == b
 
-unfoldable pub type_or_tag : List ℕ → Option Keyword
-type_or_tag word = spelled type_words word None
+abbrev pub beginning : ℕ → List (List ℕ × Keyword) → List (List ℕ × Keyword)
+beginning letter [] = []
+beginning letter (w ∷ ws) = (if begins letter w.0 then w ∷ [] else []) ++ beginning letter ws
 
-unfoldable pub value : List ℕ → Option Keyword
-value word = spelled value_words word None
-
-unfoldable pub data_or_fault : List ℕ → Option Keyword
-data_or_fault word = spelled other_words word None
+-- those of them that begin with the letter
+unfoldable pub with_letter : ℕ → List (List ℕ × Keyword)
+with_letter letter = beginning letter common_words
 
 -- `ForEach` is a keyword in profile 2 alone
 unfoldable pub keyword_of : ℕ → List ℕ → Option Keyword

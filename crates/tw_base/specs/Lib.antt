@@ -6,3 +6,4 @@ pub mod Lists
 pub mod NodeSets
 pub mod Padding
 pub mod Shape
+pub mod Words
