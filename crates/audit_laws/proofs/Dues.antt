@@ -1,5 +1,6 @@
 -- The lines of prints, words and registers are those that are due of the flat machine.
-use Rattle.std.proofs.Common.{◌≡◌, ◌∙◌, ℕ, zero, suc, ◌+◌, ◌<◌, ◌≤◌, ◌==◌, cond, Bool, true, false, List, [], ◌∷◌, ◌++◌, map, None, refl, ap, arith}
+use Rattle.std.proofs.Common.{◌≡◌, ◌∙◌, ℕ, zero, suc, ◌+◌, ◌<◌, ◌≤◌, ◌==◌, cond, Bool, true, false, List, [], ◌∷◌, ◌++◌, map}
+use Rattle.std.proofs.Common.{None, refl, ap, arith}
 use Rattle.std.specs.List.{enumerate_from, flat_map, range_with_len}
 use Rattle.std.proofs.lemmas.List.{map-append}
 use Rattle.tw_base.specs.Lists.{Each}
@@ -17,7 +18,8 @@ use Rattle.journal.specs.Finals.{counted_final}
 use Rattle.journal.specs.Laws.{prints_of, with_print}
 use Rattle.printed_lines.specs.Saying.{says}
 use Rattle.printed_lines.specs.Tokens.{whats}
-use Rattle.printed_reports.specs.Reports.{node_registers_said, print_tokens, prints_said, register_said, register_tokens, word_said, word_tokens, words_said, told}
+use Rattle.printed_reports.specs.Reports.{node_registers_said, print_tokens, prints_said, register_said, register_tokens}
+use Rattle.printed_reports.specs.Reports.{word_said, word_tokens, words_said, told}
 use Rattle.printed_reports.proofs.Naming.{Unmarked, says-same}
 use Rattle.report_audit.specs.declared.due.Due.{Due}
 use Rattle.report_audit.specs.declared.due.Due.TheVariants as due

@@ -1,5 +1,6 @@
 -- The lines of nodes are right beside the flat machine.
-use Rattle.std.proofs.Common.{◌≡◌, ◌∙◌, ℕ, zero, suc, ◌+◌, ◌<◌, ◌≤◌, ◌||◌, codes, Bool, true, false, List, [], ◌∷◌, map, Option, Some, None, refl, ap, arith}
+use Rattle.std.proofs.Common.{◌≡◌, ◌∙◌, ℕ, zero, suc, ◌+◌, ◌<◌, ◌≤◌, ◌||◌, codes, Bool, true, false, List, [], ◌∷◌, map, Option}
+use Rattle.std.proofs.Common.{Some, None, refl, ap, arith}
 use Rattle.std.specs.Prelude.{slice_get, unwrap_or}
 use Rattle.std.specs.List.{enumerate_from, range_with_len}
 use Rattle.tw_base.specs.Answers.{◌>>?◌}
@@ -29,7 +30,8 @@ use Rattle.printed_lines.specs.Tokens.{whats}
 use Rattle.printed_reports.specs.Named.{IsFinalOf, IsOutcomeOf}
 use Rattle.printed_reports.specs.Reports.{node_tokens as node_said, outcome_tokens, told}
 use Rattle.printed_reports.proofs.Naming.{Unmarked, node-there, says-same, word-said}
-use Rattle.report_audit.specs.Nodes.{count_tokens, end_tokens, failed_tokens, handled, is_line_beside, is_line_of, is_node_line, is_right, node_tokens, tried, wrong_node}
+use Rattle.report_audit.specs.Nodes.{count_tokens, end_tokens, failed_tokens, handled, is_line_beside, is_line_of, is_node_line}
+use Rattle.report_audit.specs.Nodes.{is_right, node_tokens, tried, wrong_node}
 
 -- ---- how a node ended
 

@@ -1,5 +1,6 @@
 -- The lines of a run's instructions, executed on a flat machine that the journal follows, do what they say.
-use Rattle.std.proofs.Common.{◌≡◌, ◌∙◌, ℕ, zero, suc, ◌+◌, ◌<◌, ◌≤◌, cond, Bool, true, false, List, [], ◌∷◌, ◌++◌, drop, Option, Some, None, Result, Ok, refl, sym, ap, subst, arith, append_assoc, append-nil}
+use Rattle.std.proofs.Common.{◌≡◌, ◌∙◌, ℕ, zero, suc, ◌+◌, ◌<◌, ◌≤◌, cond, Bool, true, false, List, [], ◌∷◌, ◌++◌, drop, Option}
+use Rattle.std.proofs.Common.{Some, None, Result, Ok, refl, sym, ap, subst, arith, append_assoc, append-nil}
 use Rattle.std.specs.Prelude.{count_by}
 use Rattle.std.specs.List.{flat_map}
 use Rattle.std.proofs.lemmas.List.Sums.{sum_by-cons}
@@ -23,7 +24,8 @@ use Rattle.printed_reports.specs.Named.{IsEntryOf, IsLeft}
 use Rattle.printed_reports.proofs.Naming.{act-unmarked, kind-said, kind_of_act, node-said, says-same}
 use Rattle.report_audit.specs.declared.due.Due.{Due}
 use Rattle.report_audit.specs.declared.execute.Executed.{Executed}
-use Rattle.report_audit.specs.Executing.{completed, executed, executed_as, executed_at, executed_if, is_completed as is_completed_line, is_completion, line_executed, print_due}
+use Rattle.report_audit.specs.Executing.{completed, executed, executed_as, executed_at, executed_if}
+use Rattle.report_audit.specs.Executing.{is_completed as is_completed_line, is_completion, line_executed, print_due}
 use Rattle.printed_reports.proofs.Saying.{SayFrom}
 
 -- ---- one line

@@ -4,7 +4,8 @@ use Rattle.std.specs.List.{enumerate_from}
 use Rattle.dsm_runs.specs.Flat.{IsBeside, flat_start}
 use Rattle.dsm_runs.specs.Setups.{Setup}
 use Rattle.dsm_runs.specs.Worlds.{start}
-use Rattle.report_audit.specs.Audits.{agreement, audited, from_nodes, from_registers, from_words, wrong_history, wrong_print, wrong_register, wrong_word}
+use Rattle.report_audit.specs.Audits.{agreement, audited, from_nodes, from_registers, from_words, wrong_history, wrong_print}
+use Rattle.report_audit.specs.Audits.{wrong_register, wrong_word}
 use Rattle.report_audit.specs.Executing.{begun, completed, executed}
 use Rattle.report_audit.specs.Lines.{all_registers_due, words_due}
 use Rattle.report_audit.specs.Nodes.{wrong_node}

@@ -40,19 +40,22 @@ due-said (d ∷ ds) [] next e = absurd (cc e)
 due-said [] (l ∷ ls) next e = absurd (cc e)
 due-said (d ∷ ds) (l ∷ ls) next e = go (is_due (Some d) l.tokens) refl e (λ f. due-said ds ls next f)
   where
-    go : (b : Bool) → is_due (Some d) l.tokens ≡ b → (if b then first_other ds ls next else Some l.line) ≡ None → (first_other ds ls next ≡ None → AreDue ds ls) → AreDue (d ∷ ds) (l ∷ ls)
+    go : (b : Bool) → is_due (Some d) l.tokens ≡ b → (if b then first_other ds ls next else Some l.line) ≡ None →
+        (first_other ds ls next ≡ None → AreDue ds ls) → AreDue (d ∷ ds) (l ∷ ls)
     go true is f rest =
         ap (λ (ts : List What). ts ∷ map (λ (x : PrintedLine). whats x.tokens) ls) (says-is (due_tokens d) (whats l.tokens) is)
         ∙ ap (λ (xs : List (List What)). due_tokens d ∷ xs) (rest f)
     go false is f rest = absurd (cc f)
 
 -- where no line of a node is wrong, each is right
-pub nodes-right : (events : List PrintedLine) (m : Machine) (lines : List PrintedLine) → wrong_node events m lines ≡ None → Each (λ l. is_right events m l.tokens ≡ true) lines
+pub nodes-right : (events : List PrintedLine) (m : Machine) (lines : List PrintedLine) → wrong_node events m lines ≡ None →
+    Each (λ l. is_right events m l.tokens ≡ true) lines
 unfolding wrong_node
 nodes-right events m [] e = tt
 nodes-right events m (l ∷ ls) e = go (is_right events m l.tokens) refl e (λ f. nodes-right events m ls f)
   where
     go : (b : Bool) → is_right events m l.tokens ≡ b → (if b then wrong_node events m ls else Some l.line) ≡ None →
-        (wrong_node events m ls ≡ None → Each (λ x. is_right events m x.tokens ≡ true) ls) → Each (λ x. is_right events m x.tokens ≡ true) (l ∷ ls)
+        (wrong_node events m ls ≡ None → Each (λ x. is_right events m x.tokens ≡ true) ls) →
+        Each (λ x. is_right events m x.tokens ≡ true) (l ∷ ls)
     go true is f rest = (is, rest f)
     go false is f rest = absurd (cc f)

@@ -41,8 +41,8 @@ pub record TellsOf (p : Protocol) (l : PrintedLine) (done : ℕ × Act) : Type 0
 abbrev pub AreDue : List Due → List PrintedLine → Type 0
 AreDue due lines = map (λ l. whats l.tokens) lines ≡ map due_tokens due
 
--- The flat machine of a setup executes instructions of which a report tells, line by line. The report's prints are what they print, its
--- words and registers are what the machine comes to, the lines of nodes are right of it, and the history agrees.
+-- The flat machine of a setup executes instructions of which a report tells, line by line. The report's prints are what they
+-- print, its words and registers are what the machine comes to, the lines of nodes are right of it, and the history agrees.
 pub record IsFlat (s : Setup) (p : Printed) : Type 0 where
   pub done : List (ℕ × Act)
   pub flat : Machine

@@ -1,19 +1,21 @@
 -- To complete the instruction behind its check is to complete that of the plain program.
-use Rattle.std.proofs.Common.{◌≡◌, ℕ, zero, suc, ◌+◌, ◌*◌, ◌^◌, ◌<◌, ◌≤◌, ◌==◌, Bool, true, false, nat_lt, if◌then◌else◌, List, [], ◌∷◌, length, slice_get, slice_index, get_or, Option, Some, None, refl, ap, sym, ◌∙◌, subst, add-zero, add-one, arith}
+use Rattle.std.proofs.Common.{◌≡◌, ℕ, zero, suc, ◌+◌, ◌*◌, ◌^◌, ◌<◌, ◌≤◌, ◌==◌, Bool, true, false, nat_lt, if◌then◌else◌, List}
+use Rattle.std.proofs.Common.{[], ◌∷◌, length, slice_get, slice_index, Option, Some, None, refl, ap, sym, ◌∙◌, subst, add-zero}
+use Rattle.std.proofs.Common.{add-one, arith}
 use Rattle.std.proofs.lemmas.Option.{slice_get_within}
 use Rattle.mini_asm.specs.Machine.{written, with_written, place_after, completed, finish_of}
 use Rattle.mini_asm.specs.Run.{first_cpu}
 use Rattle.mini_asm.specs.Programs.{GoesWithin, HasRegisters, IsProgram}
 use Rattle.mini_asm.specs.declared.cpu.Cpu.{Cpu}
 use Rattle.mini_asm.specs.declared.instr.Instr.{Instr}
-use Rattle.mini_asm.specs.declared.instr.Instr.TheVariants.{Li, Mov, Add, Sub, And, Or, Xor, Ld, St, Beq, Bne, Blt, Jmp, Print, Halt, Faa}
+use Rattle.mini_asm.specs.declared.instr.Instr.TheVariants.{Ld, Beq, Bne, Blt, Jmp, Halt}
 use Rattle.blizzard_guard.specs.declared.guarding.GuardOp.{GuardOp}
 use Rattle.blizzard_guard.specs.declared.guarding.GuardOp.TheVariants.{Check, Do}
 use Rattle.blizzard_guard.specs.declared.guarding.Guarded.{Guarded}
-use Rattle.blizzard_guard.specs.Guarding.{check_of, first_op, moved, ops_of, places_from, guarded, plain_place, plain_of}
-use Rattle.blizzard_guard.specs.Running.{OnProgram, on_plain, IsOnGuarded, instr_here, instr_place}
+use Rattle.blizzard_guard.specs.Guarding.{check_of, first_op, moved, guarded, plain_place, plain_of}
+use Rattle.blizzard_guard.specs.Running.{on_plain, IsOnGuarded, instr_here, instr_place}
 use Rattle.blizzard_guard.proofs.Ops.{first_place, plain_first, plain_of-guarded}
-use Rattle.blizzard_guard.proofs.Standing.{Standing, AtEnd, AtPlain, AtAccess, standing, is_instr, no_instr, instr_of, registers_moved}
+use Rattle.blizzard_guard.proofs.Standing.{Standing, AtEnd, AtPlain, AtAccess, is_instr, no_instr, instr_of, registers_moved}
 
 -- ---- places of ops
 
@@ -179,7 +181,8 @@ does g cpu place loaded j on f =
     let cpu' : Cpu = record { regs = cpu.regs; place = k } in
     let place' = plain_place g (place_after j cpu.regs place) in
     let regs' = with_written (written j cpu.regs loaded) cpu.regs in
-    let done : ◌≡◌ {A = Cpu} (record { regs = regs'; place = place' }) (completed (Some f.i) cpu' loaded) = rw (regs, m.plain) refl in
+    let done : ◌≡◌ {A = Cpu} (record { regs = regs'; place = place' }) (completed (Some f.i) cpu' loaded) =
+    rw (regs, m.plain) refl in
     done ∙ sym (ap (λ (o : Option Instr). completed o cpu' loaded) f.there)
 
 -- its registers are in range

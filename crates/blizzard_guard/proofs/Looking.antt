@@ -1,22 +1,23 @@
 -- A look at an op is a look at the instruction of the plain program.
-use Rattle.std.proofs.Common.{◌≡◌, ℕ, zero, suc, ◌+◌, ◌*◌, ◌^◌, ◌<◌, ◌≤◌, ◌⊎◌, inl, inr, Bool, true, false, nat_lt, if◌then◌else◌, List, [], ◌∷◌, slice_get, slice_index, get_or, Option, Some, None, IfSome, refl, ap, sym, ◌∙◌, subst, arith}
+use Rattle.std.proofs.Common.{◌≡◌, ℕ, ◌+◌, ◌*◌, ◌<◌, ◌⊎◌, inl, inr, Bool, true, false, nat_lt, if◌then◌else◌, List, [], ◌∷◌}
+use Rattle.std.proofs.Common.{slice_get, slice_index, Option, Some, None, IfSome, refl, ap, sym, ◌∙◌, subst}
 use Rattle.std.proofs.lemmas.Bool.{ltb-true, lt-ltb}
 use Rattle.std.proofs.lemmas.Option.{none-some}
 use Rattle.tw_base.specs.declared.entry.Trap.TheVariants.{BadAddress}
 use Rattle.block_tags.specs.Copies.{Copies}
-use Rattle.mini_asm.specs.Machine.{wrap, access, fetch_and_add, asks, next_of}
+use Rattle.mini_asm.specs.Machine.{wrap, access, fetch_and_add, asks}
 use Rattle.mini_asm.specs.Programs.{HasRegisters, IsProgram}
-use Rattle.mini_asm.specs.declared.cpu.Cpu.{Cpu}
 use Rattle.mini_asm.specs.declared.cpu.Next.{Next}
 use Rattle.mini_asm.specs.declared.cpu.Next.TheVariants as nexts
 use Rattle.mini_asm.specs.declared.instr.Instr.{Instr}
-use Rattle.mini_asm.specs.declared.instr.Instr.TheVariants.{Li, Mov, Add, Sub, And, Or, Xor, Ld, St, Beq, Bne, Blt, Jmp, Print, Halt, Faa}
+use Rattle.mini_asm.specs.declared.instr.Instr.TheVariants.{Ld, St, Beq, Faa}
 use Rattle.blizzard_guard.specs.declared.guarding.GuardOp.{GuardOp}
 use Rattle.blizzard_guard.specs.declared.guarding.GuardOp.TheVariants.{Check, Do}
 use Rattle.blizzard_guard.specs.declared.processor.Look.TheVariants.{Refused, Goes}
 use Rattle.blizzard_guard.specs.Guarding.{check_of, first_op, moved}
 use Rattle.blizzard_guard.specs.Running.{IsAccessOf, IsAnswered, MayGoAt, MayGo, LookedAt, check_here, instr_here}
-use Rattle.blizzard_guard.proofs.Standing.{Standing, AtEnd, AtPlain, AtAccess, is_check, no_check, instr_of, registers_moved, base_of}
+use Rattle.blizzard_guard.proofs.Standing.{Standing, AtEnd, AtPlain, AtAccess, is_check, no_check, instr_of, registers_moved}
+use Rattle.blizzard_guard.proofs.Standing.{base_of}
 
 -- ---- what an instruction asks for
 

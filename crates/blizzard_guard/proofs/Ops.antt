@@ -1,13 +1,15 @@
 -- Where the ops of an instruction stand, and what a guarded program stands for.
-use Rattle.std.proofs.Common.{◌≡◌, ℕ, zero, suc, ◌+◌, ◌*◌, ◌<◌, ◌≤◌, List, [], ◌∷◌, ◌++◌, length, take, drop, get_or, replicate, refl, ap, sym, ◌∙◌, All, append_assoc, add-zero, add-one, zero-add, arith}
+use Rattle.std.proofs.Common.{◌≡◌, ℕ, zero, suc, ◌+◌, ◌≤◌, List, [], ◌∷◌, ◌++◌, length, drop, get_or, replicate, refl, ap, sym}
+use Rattle.std.proofs.Common.{◌∙◌, All, append_assoc, add-zero, add-one, zero-add, arith}
 use Rattle.std.proofs.lemmas.List.{drop-drop, drop_at, length_push, length-replicate, get_or-drop}
-use Rattle.mini_asm.specs.Programs.{GoesWithin, HasRegisters, IsInstr, IsProgram}
+use Rattle.mini_asm.specs.Programs.{GoesWithin, IsInstr, IsProgram}
 use Rattle.mini_asm.specs.declared.instr.Instr.{Instr}
-use Rattle.mini_asm.specs.declared.instr.Instr.TheVariants.{Li, Mov, Add, Sub, And, Or, Xor, Ld, St, Beq, Bne, Blt, Jmp, Print, Halt, Faa}
+use Rattle.mini_asm.specs.declared.instr.Instr.TheVariants.{Ld, Beq, Bne, Blt, Jmp}
 use Rattle.blizzard_guard.specs.declared.guarding.GuardOp.{GuardOp}
-use Rattle.blizzard_guard.specs.declared.guarding.GuardOp.TheVariants.{Check, Do}
+use Rattle.blizzard_guard.specs.declared.guarding.GuardOp.TheVariants.{Do}
 use Rattle.blizzard_guard.specs.declared.guarding.Guarded.{Guarded}
-use Rattle.blizzard_guard.specs.Guarding.{check_of, first_op, starts_from, moved, ops_of, places_from, guarded, plain_place, plain_ops, plain_of}
+use Rattle.blizzard_guard.specs.Guarding.{check_of, first_op, starts_from, moved, ops_of, places_from, guarded, plain_place}
+use Rattle.blizzard_guard.specs.Guarding.{plain_ops, plain_of}
 
 -- ---- places
 

@@ -1,15 +1,16 @@
 -- What stands at the place of a processor on a guarded program.
-use Rattle.std.proofs.Common.{◌≡◌, ℕ, zero, suc, ◌+◌, ◌*◌, ◌<◌, ◌≤◌, ◌⊎◌, inl, inr, Bool, true, false, List, [], ◌∷◌, ◌++◌, length, drop, get_or, slice_get, Option, Some, None, All, refl, ap, sym, ◌∙◌, subst, add-zero, arith}
+use Rattle.std.proofs.Common.{◌≡◌, ℕ, zero, suc, ◌+◌, ◌<◌, ◌≤◌, ◌⊎◌, inl, inr, Bool, true, false, List, [], ◌∷◌, ◌++◌, length}
+use Rattle.std.proofs.Common.{drop, get_or, slice_get, Option, Some, None, refl, ap, sym, ◌∙◌, subst, add-zero, arith}
 use Rattle.std.proofs.lemmas.List.{drop_all}
 use Rattle.std.proofs.lemmas.Option.{get_or_from_slice_get, same_Some, slice_get_within, slice_get_cases}
-use Rattle.mini_asm.specs.Programs.{HasRegisters, GoesWithin, IsInstr, IsProgram}
+use Rattle.mini_asm.specs.Programs.{HasRegisters, IsInstr, IsProgram}
 use Rattle.mini_asm.specs.declared.cpu.Cpu.{Cpu}
 use Rattle.mini_asm.specs.declared.instr.Instr.{Instr}
-use Rattle.mini_asm.specs.declared.instr.Instr.TheVariants.{Li, Mov, Add, Sub, And, Or, Xor, Ld, St, Beq, Bne, Blt, Jmp, Print, Halt, Faa}
+use Rattle.mini_asm.specs.declared.instr.Instr.TheVariants.{Ld, St, Beq, Faa}
 use Rattle.blizzard_guard.specs.declared.guarding.GuardOp.{GuardOp}
 use Rattle.blizzard_guard.specs.declared.guarding.GuardOp.TheVariants.{Check, Do}
 use Rattle.blizzard_guard.specs.declared.guarding.Guarded.{Guarded}
-use Rattle.blizzard_guard.specs.Guarding.{check_of, first_op, moved, ops_of, guarded, plain_place, plain_of}
+use Rattle.blizzard_guard.specs.Guarding.{check_of, first_op, moved, ops_of, plain_place, plain_of}
 use Rattle.blizzard_guard.specs.Running.{IsOnGuarded, check_here, instr_here}
 use Rattle.blizzard_guard.proofs.Ops.{drop-ops_of}
 

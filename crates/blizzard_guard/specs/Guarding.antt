@@ -1,7 +1,8 @@
 -- A program with a check before each access.
-use Rattle.std.specs.Prelude.{ℕ, zero, suc, ◌+◌, Bool, true, false, List, [], ◌∷◌, ◌++◌, length, replicate, slice_index}
+use Rattle.std.specs.Prelude.{ℕ, zero, suc, ◌+◌, true, false, List, [], ◌∷◌, ◌++◌, length, replicate, slice_index}
 use Rattle.mini_asm.specs.declared.instr.Instr.{Instr}
-use Rattle.mini_asm.specs.declared.instr.Instr.TheVariants.{Li, Mov, Add, Sub, And, Or, Xor, Ld, St, Beq, Bne, Blt, Jmp, Print, Halt, Faa}
+use Rattle.mini_asm.specs.declared.instr.Instr.TheVariants.{Li, Mov, Add, Sub, And, Or, Xor, Ld, St, Beq, Bne, Blt, Jmp, Print}
+use Rattle.mini_asm.specs.declared.instr.Instr.TheVariants.{Halt, Faa}
 use Rattle.blizzard_guard.specs.declared.guarding.GuardOp.{GuardOp}
 use Rattle.blizzard_guard.specs.declared.guarding.GuardOp.TheVariants.{Check, Do}
 use Rattle.blizzard_guard.specs.declared.guarding.Guarded.{Guarded}

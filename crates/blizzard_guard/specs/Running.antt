@@ -1,5 +1,5 @@
 -- A processor on a guarded program, seen as the processor of the plain one.
-use Rattle.std.specs.Prelude.{◌≡◌, ℕ, ◌+◌, ◌*◌, ◌<◌, ◌≤◌, Bool, true, false, List, length, Option, Some, None, slice_get}
+use Rattle.std.specs.Prelude.{◌≡◌, ℕ, ◌+◌, ◌*◌, ◌<◌, ◌≤◌, Bool, true, false, List, length, Option, Some, None}
 use Rattle.block_tags.specs.Copies.{Copies, allows}
 use Rattle.mini_asm.specs.Programs.{IsProgram}
 use Rattle.mini_asm.specs.declared.cpu.Cpu.{Cpu}

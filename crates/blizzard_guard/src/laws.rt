@@ -10,5 +10,6 @@ pub fn guarded_programs_are_plain()
     ensures plain { (p : List Instr) → IsProgram p → plain_of (guarded p) ≡ p }
     ensures places { (p : List Instr) (k : ℕ) → k ≤ length p → plain_place (guarded p) (first_op p k) ≡ k }
     ensures checked { (p : List Instr) (k : ℕ) (i : Instr) → slice_get p k ≡ Some i
-        → drop (first_op p k) (guarded p).ops ≡ check_of i ++ Do (moved (first_op p) i) ∷ drop (first_op p (k + 1)) (guarded p).ops }
+        → drop (first_op p k) (guarded p).ops ≡ check_of i ++ Do (moved (first_op p) i) ∷ drop (first_op p (k + 1))
+        (guarded p).ops }
 {}

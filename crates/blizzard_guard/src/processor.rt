@@ -60,7 +60,8 @@ fn asks_at(ops: &Listed<GuardOp>, at: u32, regs: &[u64; 16], size: u64) -> Next
 
 /// The address of an access, where the tag of its block refuses it. An address past the memory has no tag.
 fn refused(blocks: &Blocks, store: bool, address: u64) -> Option<u32>
-    ensures { MatchOption result (MayGoAt blocks.now store address) (λ a. (a ≡ address) × IsAnswered blocks.now store address false) }
+    ensures { MatchOption result (MayGoAt blocks.now store address)
+        (λ a. (a ≡ address) × IsAnswered blocks.now store address false) }
 {
     let a = Access { store, address };
     if address < u64::from(blocks.shape().size()) && check_access(blocks, a) == Looked::Miss {
@@ -127,7 +128,8 @@ impl Processor {
 
     /// Executes the check of the next instruction, if it is an access, and tells what the instruction asks for.
     pub fn look(&self, blocks: &Blocks) -> Look
-        ensures { LookedAt (next_of self.now.program self.now.cpu (blocks.now.shape.words * blocks.now.shape.blocks)) blocks.now result }
+        ensures { LookedAt (next_of self.now.program self.now.cpu (blocks.now.shape.words * blocks.now.shape.blocks))
+            blocks.now result }
     {
         let size = u64::from(blocks.shape().size());
         let place = self.cpu.place;

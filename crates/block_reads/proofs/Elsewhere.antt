@@ -2,7 +2,8 @@
 use Rattle.std.proofs.Common.{◌≡◌, ◌≢◌, refl}
 use Rattle.block_spots.specs.Cases.{Rest}
 use Rattle.stache_check.specs.declared.protocol.Place.{Place}
-use Rattle.stache_check.specs.declared.protocol.Place.TheVariants.{HomeRw, HomeRo, HomeExcl, HomeAcks, HomePut, CacheInv, CacheRo, CacheRw, CacheWaitRo, CacheWaitRw}
+use Rattle.stache_check.specs.declared.protocol.Place.TheVariants.{HomeRw, HomeRo, HomeExcl, HomeAcks, HomePut, CacheInv}
+use Rattle.stache_check.specs.declared.protocol.Place.TheVariants.{CacheRo, CacheRw, CacheWaitRo, CacheWaitRw}
 use Rattle.stache_table.specs.Blocks.{rest_at}
 use Rattle.stache_d_table.specs.Blocks as table_d
 use Rattle.block_reads.specs.Whose.{state_in}

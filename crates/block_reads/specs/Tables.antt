@@ -1,4 +1,5 @@
--- What each protocol has of its own of a block: its tree, what its continuations serve and leave to be done, and which blocks are its own.
+-- What each protocol has of its own of a block: its tree, what its continuations serve and leave to be done, and which blocks
+-- are its own.
 use Rattle.std.specs.Prelude.{ℕ, Option, None}
 use Rattle.teapot_tree.specs.declared.protocol.Protocol.{Protocol}
 use Rattle.teapot_meaning.specs.declared.state.Here.{Here}

@@ -35,7 +35,8 @@ rest_in wh.OfCache = cases.OfCache
 
 -- what this state's handler saves for the node, restoring what this continuation restores
 abbrev pub saved_at : Directory → cases.State → cases.Rest → ℕ → Cont → Cont
-saved_at d s r node k = cont_of (record { rest = rest_under d s r; vars = src node; came = None; state = (out-StateVal (out-Cont k).saved).state })
+saved_at d s r node k =
+    cont_of (record { rest = rest_under d s r; vars = src node; came = None; state = (out-StateVal (out-Cont k).saved).state })
 
 abbrev pub opt : {X Y : Type 0} → (X → Y) → Option X → Option Y
 opt f (Some x) = Some (f x)
@@ -49,4 +50,5 @@ IsPlace n p = (number_of (state_in p) ≡ n) × (state_in p ≡ state_numbered n
 abbrev pub told_val : Directory → ℕ → StateVal → StateVal
 told_val d me s =
     state_val (number_of (state_numbered (out-StateVal s).state))
-    (later_under d me (state_numbered (out-StateVal s).state) (left_of (out-StateVal s).cont) (reads_under d (out-StateVal s).cont))
+    (later_under d me (state_numbered (out-StateVal s).state) (left_of (out-StateVal s).cont)
+    (reads_under d (out-StateVal s).cont))

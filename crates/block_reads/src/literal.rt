@@ -43,14 +43,16 @@ pub fn place_seen(number: u8) -> Place
 }
 
 fn are_infos(infos: &[Value]) -> bool
-    ensures { IsTrue result ↔ (infos.now ≡ v.Set (set_of (value_at infos.now 0)) ∷ v.Node (node_of (value_at infos.now 1)) ∷ v.Int (int_of (value_at infos.now 2)) ∷ []) }
+    ensures { IsTrue result ↔ (infos.now ≡ v.Set (set_of (value_at infos.now 0)) ∷ v.Node
+        (node_of (value_at infos.now 1)) ∷ v.Int (int_of (value_at infos.now 2)) ∷ []) }
 {
     matches!(infos, [Value::Set(_), Value::Node(_), Value::Int(_)])
 }
 
 #[tactic(auto, using(crate::proofs::Layers::reads_none))]
 fn is_cont(cont: &Option<Boxed<Cont>>, directory: Directory, place: Place, me: NodeId) -> bool
-    ensures { IsTrue result ↔ (opt bare_cont cont.now ≡ cont_if (later_under directory me (state_in place) (left_of cont.now) (reads_under directory cont.now))) }
+    ensures { IsTrue result ↔ (opt bare_cont cont.now ≡ cont_if
+        (later_under directory me (state_in place) (left_of cont.now) (reads_under directory cont.now))) }
 {
     let whose = rest_under(directory, cont);
     match cont {

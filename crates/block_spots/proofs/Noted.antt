@@ -1,8 +1,7 @@
 -- What an event does to the notes of a block.
-use Rattle.std.proofs.Common.{◌≡◌, ◌≢◌, ℕ, zero, suc, ◌<◌, ◌≤◌, Bool, true, false, List, [], ◌∷◌, ◌++◌, map, Some, arith, refl, ap, ◌∙◌, inl, inr, ◌⊎◌, cond}
+use Rattle.std.proofs.Common.{◌≡◌, ◌≢◌, ℕ, Bool, true, false, List, [], ◌∷◌, ◌++◌, map, arith, refl, ap, ◌∙◌}
 use Rattle.std.proofs.lemmas.List.{map-append, append-nil}
 use Rattle.std.proofs.lemmas.List.Elements.{filter-append}
-use Rattle.std.proofs.lemmas.Bool.{cases_eq}
 use Rattle.std.proofs.lemmas.Bool.Decides.{nat_tests}
 use Rattle.std.specs.List.{filter}
 use Rattle.block_spots.specs.Cases.{Message, Kept, No, Stale}
@@ -49,15 +48,18 @@ pub kept_notes_nil : (b i : ℕ) → kept_notes b i [] ≡ []
 unfolding kept_notes
 kept_notes_nil b i = refl
 
-pub kept_notes_other : (b i : ℕ) (w : Waiting) (ws : List Waiting) → w.message.block ≢ b → kept_notes b i (w ∷ ws) ≡ kept_notes b i ws
+pub kept_notes_other : (b i : ℕ) (w : Waiting) (ws : List Waiting) → w.message.block ≢ b →
+    kept_notes b i (w ∷ ws) ≡ kept_notes b i ws
 unfolding kept_notes
 kept_notes_other b i w ws e = grind (arith, nat_tests)
 
-pub kept_notes_from_other : (b i : ℕ) (w : Waiting) (ws : List Waiting) → w.message.from ≢ i → kept_notes b i (w ∷ ws) ≡ kept_notes b i ws
+pub kept_notes_from_other : (b i : ℕ) (w : Waiting) (ws : List Waiting) → w.message.from ≢ i →
+    kept_notes b i (w ∷ ws) ≡ kept_notes b i ws
 unfolding kept_notes
 kept_notes_from_other b i w ws e = grind (arith, nat_tests)
 
-pub kept_notes_same : (b i : ℕ) (w : Waiting) (ws : List Waiting) → w.message.block ≡ b → w.message.from ≡ i → kept_notes b i (w ∷ ws) ≡ note w.message ∷ kept_notes b i ws
+pub kept_notes_same : (b i : ℕ) (w : Waiting) (ws : List Waiting) → w.message.block ≡ b → w.message.from ≡ i →
+    kept_notes b i (w ∷ ws) ≡ note w.message ∷ kept_notes b i ws
 unfolding kept_notes
 kept_notes_same b i w ws d e = grind (arith, nat_tests)
 
@@ -70,10 +72,12 @@ pub kept_notes-freed_if : (b i c : ℕ) (t : Bool) (ws : List Waiting) → kept_
 kept_notes-freed_if b i c true ws = kept_notes-free b i c ws
 kept_notes-freed_if b i c false ws = refl
 
-pub kept_notes-with_kept_other : (b i : ℕ) (k : Kept) (m : Message) (ws : List Waiting) → m.block ≢ b → kept_notes b i (with_kept k m ws) ≡ kept_notes b i ws
+pub kept_notes-with_kept_other : (b i : ℕ) (k : Kept) (m : Message) (ws : List Waiting) → m.block ≢ b →
+    kept_notes b i (with_kept k m ws) ≡ kept_notes b i ws
 kept_notes-with_kept_other b i No m ws d = refl
 kept_notes-with_kept_other b i Stale m ws d =
-    kept_notes-append b i ws _ ∙ ap (λ x. kept_notes b i ws ++ x) (kept_notes_other b i _ [] d ∙ kept_notes_nil b i) ∙ append-nil _
+    kept_notes-append b i ws _ ∙ ap (λ x. kept_notes b i ws ++ x) (kept_notes_other b i _ [] d ∙ kept_notes_nil b i)
+    ∙ append-nil _
 
 -- what a list of sends puts on one wire, of block b
 unfoldable pub sent : ℕ → List Message → ℕ → ℕ → Chan → List Note
@@ -100,7 +104,8 @@ unfolding sent notes
 sent_from_other b f t i c [] h d = refl
 sent_from_other b f t i c (m ∷ ms) h d = grind (arith, nat_tests, sent_from_other b f t i c ms h.1 d)
 
-pub sent_one : (b f t : ℕ) (c : Chan) (x : Message) → x.block ≡ b → x.from ≡ f → x.to ≡ t → x.chan ≡ c → sent b (x ∷ []) f t c ≡ note x ∷ []
+pub sent_one : (b f t : ℕ) (c : Chan) (x : Message) → x.block ≡ b → x.from ≡ f → x.to ≡ t → x.chan ≡ c →
+    sent b (x ∷ []) f t c ≡ note x ∷ []
 unfolding sent notes
 sent_one b f t Zero x p q r s = grind (arith, nat_tests)
 sent_one b f t One x p q r s = grind (arith, nat_tests)

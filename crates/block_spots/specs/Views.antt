@@ -26,11 +26,15 @@ use Rattle.block_spots.specs.Sketches as plain
 
 abbrev pub state_numbered : ℕ → cases.State
 state_numbered n =
-    unwrap_or (slice_get (cases.HomeRw ∷ cases.HomeRo ∷ cases.HomeExcl ∷ cases.HomeAcks ∷ cases.HomePut ∷ cases.CacheInv ∷ cases.CacheRo ∷ cases.CacheRw ∷ cases.CacheWaitRo ∷ cases.CacheWaitRw ∷ []) n) cases.CacheInv
+    unwrap_or
+    (slice_get (cases.HomeRw ∷ cases.HomeRo ∷ cases.HomeExcl ∷ cases.HomeAcks ∷ cases.HomePut ∷ cases.CacheInv ∷
+    cases.CacheRo ∷ cases.CacheRw ∷ cases.CacheWaitRo ∷ cases.CacheWaitRw ∷ []) n) cases.CacheInv
 
 abbrev pub kind_numbered : ℕ → cases.Kind
 kind_numbered n =
-    unwrap_or (slice_get (cases.GetRo ∷ cases.GetRw ∷ cases.DataRo ∷ cases.DataRw ∷ cases.Put ∷ cases.Inv ∷ cases.Ack ∷ cases.Recall ∷ cases.RecallRo ∷ cases.PutRo ∷ []) n) cases.GetRo
+    unwrap_or
+    (slice_get (cases.GetRo ∷ cases.GetRw ∷ cases.DataRo ∷ cases.DataRw ∷ cases.Put ∷ cases.Inv ∷ cases.Ack ∷
+    cases.Recall ∷ cases.RecallRo ∷ cases.PutRo ∷ []) n) cases.GetRo
 
 abbrev pub seen_kind : Kind → cases.Kind
 seen_kind number.RdFault = cases.RdFault
@@ -67,7 +71,14 @@ words_in (Some d) = d
 words_in None = []
 
 abbrev pub seen_message : Message → cases.Message
-seen_message m = record { kind = seen_kind m.kind; block = m.block; from = m.from; to = m.to; chan = m.chan; payload = words_in m.payload }
+seen_message m = record {
+  kind = seen_kind m.kind;
+  block = m.block;
+  from = m.from;
+  to = m.to;
+  chan = m.chan;
+  payload = words_in m.payload;
+}
 
 abbrev pub seen_waiting : Waiting → marks.Waiting
 seen_waiting w = record { message = seen_message w.message; eligible = w.eligible }
@@ -84,7 +95,9 @@ seen_next s next.Step = plain.Neither
 
 -- all that an instruction event needs but the mode
 abbrev pub seen_may : Setup → Local → Bool
-seen_may s l = not (is_some l.failed) && (nat_lt l.instructions s.shape.budget && (nat_lt l.sent (handler_budget_of s.shape) && nat_lt l.clock last_stamp))
+seen_may s l =
+    not (is_some l.failed) && (nat_lt l.instructions s.shape.budget
+    && (nat_lt l.sent (handler_budget_of s.shape) && nat_lt l.clock last_stamp))
 
 abbrev pub seen_local : Reads → Setup → ℕ → Local → plain.Local
 seen_local reads s i l = record {

@@ -13,5 +13,6 @@ set_others n k i h ne = ap (λ b. eqb b 1) (bit_at_set_other w64 n k h i ne)
 pub clear_here : (n k : ℕ) → k < 64 → has_bit (bit_and n (18446744073709551615 - 1 * 2 ^ k % 18446744073709551616)) k ≡ false
 clear_here n k h = ap (λ b. eqb b 1) (bit_at_clear_same w64 n k h)
 
-pub clear_others : (n k i : ℕ) → k < 64 → i < 64 → i ≢ k → has_bit (bit_and n (18446744073709551615 - 1 * 2 ^ k % 18446744073709551616)) i ≡ has_bit n i
+pub clear_others : (n k i : ℕ) → k < 64 → i < 64 → i ≢ k → has_bit
+    (bit_and n (18446744073709551615 - 1 * 2 ^ k % 18446744073709551616)) i ≡ has_bit n i
 clear_others n k i h lt ne = ap (λ b. eqb b 1) (bit_at_clear_other w64 n k h i lt ne)

@@ -20,7 +20,9 @@ pub tags_set : (r w r2 w2 block : ℕ) (tag : Tag) → block < 64 → tag_by (ha
 unfolding tag_in
 tags_set r w r2 w2 block tag h here reads writes =
     let long : length (tags_in r w) ≡ 64 = length-map-range_with_len (tag_in r w) 0 64 in
-    sym (fill_by_all (tag_in r2 w2) (set (tags_in r w) block tag) 64 Invalid (length-set (tags_in r w) block tag ∙ long) (λ k lt. elim (cases_eq k block) [
+    sym (fill_by_all (tag_in r2 w2) (set (tags_in r w) block tag) 64 Invalid (length-set (tags_in r w) block tag ∙ long)
+    (λ k lt. elim (cases_eq k block) [
       | inl e ↦ rw e (get_or-set_same (tags_in r w) block tag Invalid (omega (arith, long)) ∙ sym here)
-      | inr ne ↦ get_or-set_other (tags_in r w) block k tag Invalid ne ∙ tag_at r w k lt ∙ sym (ap (λ b. tag_by b (has_bit w k)) (reads k lt ne)) ∙ sym (ap (tag_by (has_bit r2 k)) (writes k lt ne))
+      | inr ne ↦ get_or-set_other (tags_in r w) block k tag Invalid ne ∙ tag_at r w k lt
+          ∙ sym (ap (λ b. tag_by b (has_bit w k)) (reads k lt ne)) ∙ sym (ap (tag_by (has_bit r2 k)) (writes k lt ne))
     ]))

@@ -1,6 +1,7 @@
 -- What a node keeps of the memory: a tag for each block, and a word for each address. Address a is word a mod w of
 -- block a / w, where a block has w words.
-use Rattle.std.specs.Prelude.{◌≡◌, ℕ, ◌+◌, ◌*◌, ◌/◌, ◌%◌, ◌==◌, Bool, true, false, not, if◌then◌else◌, List, [], ◌∷◌, ◌++◌, length, map, take, drop, slice_index, slice_set}
+use Rattle.std.specs.Prelude.{◌≡◌, ℕ, ◌+◌, ◌*◌, ◌/◌, ◌%◌, ◌==◌, Bool, true, false, not, if◌then◌else◌, List, [], ◌∷◌, ◌++◌}
+use Rattle.std.specs.Prelude.{length, map, take, drop, slice_index, slice_set}
 use Rattle.std.specs.List.{range_with_len, slice_index_or}
 use Rattle.tw_base.specs.Shape.{Sizes, IsWithinLimits}
 use Rattle.tw_base.specs.declared.value.Tag.{Tag}

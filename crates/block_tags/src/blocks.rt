@@ -1,6 +1,7 @@
 ghost use Rattle.std.specs.Prelude.{◌≡◌, ◌*◌, ◌<◌, ◌≤◌, length, map, take, All, IfOk, IsTrue, true, false};
 ghost use Rattle.std.specs.List.{range_with_len};
-ghost use Rattle.block_tags.specs.Copies.{IsWhole, tag_of, word_at, block_words, allows, with_tag, with_word, with_block, first_tag, init_value, at_start};
+ghost use Rattle.block_tags.specs.Copies.{IsWhole, tag_of, word_at, block_words, allows, with_tag, with_word, with_block};
+ghost use Rattle.block_tags.specs.Copies.{first_tag, init_value, at_start};
 
 use crate::packed::PackedTags;
 use std::alloc::Global;
@@ -24,7 +25,8 @@ impl Model for Blocks {
 
     ghost view = { λ b. record { shape = b.shape; tags = take b.shape.blocks b.tags; words = b.words.items } };
 
-    ghost invariant = { λ b. IsWithinLimits b.shape × (length b.tags ≡ 64) × (length b.words.items ≡ b.shape.words * b.shape.blocks) };
+    ghost invariant = { λ b. IsWithinLimits b.shape × (length b.tags ≡ 64)
+        × (length b.words.items ≡ b.shape.words * b.shape.blocks) };
 }
 
 /// The words of a part, at most eight.

@@ -7,7 +7,8 @@ pub fn blocks_are_parts_of_the_words()
     ensures word { (m : Copies) (address : ℕ) → 0 < m.shape.words
         → slice_index (block_words m (address / m.shape.words)) (address % m.shape.words) ≡ word_at m address }
     ensures written { (m : Copies) (address value : ℕ) → 0 < m.shape.words
-        → block_words (with_word m address value) (address / m.shape.words) ≡ slice_set (block_words m (address / m.shape.words)) (address % m.shape.words) value }
+        → block_words (with_word m address value) (address / m.shape.words)
+        ≡ slice_set (block_words m (address / m.shape.words)) (address % m.shape.words) value }
     ensures others { (m : Copies) (address value block : ℕ) → 0 < m.shape.words → block ≢ address / m.shape.words
         → block_words (with_word m address value) block ≡ block_words m block }
 {}

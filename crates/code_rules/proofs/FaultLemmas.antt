@@ -1,5 +1,6 @@
 -- The first fault of all rules.
-use Rattle.std.proofs.Common.{◌≡◌, ℕ, ◌+◌, ◌<◌, ◌≤◌, ◌⊎◌, ◌==◌, Bool, true, false, Option, Some, None, nat_lt, length, inl, inr, subst, sym, ap, ◌∙◌, refl, arith}
+use Rattle.std.proofs.Common.{◌≡◌, ℕ, ◌+◌, ◌<◌, ◌≤◌, ◌⊎◌, ◌==◌, Bool, true, false, Option, Some, None, nat_lt, length, inl, inr}
+use Rattle.std.proofs.Common.{subst, sym, ap, ◌∙◌, refl, arith}
 use Rattle.std.specs.Prelude.{if◌then◌else◌, MatchBool}
 use Rattle.std.proofs.lemmas.Bool.{cases_lt, ltb-true, ltb-false}
 use Rattle.handler_code.specs.declared.code.Code.{Code}
@@ -33,7 +34,8 @@ same-rule : (r s : Rule) → number_of r ≡ number_of s → r ≡ s
 same-rule r s e = sym (back r) ∙ ap rule_from e ∙ back s
 
 -- a rule of a number up to n is one of a lesser number, or this one
-at-rule : (code : Code) (p : Protocol) (n : ℕ) (rule r : Rule) (at : ℕ) → number_of rule ≡ n → number_of r < n + 1 → Breaks code p at r → (number_of r < n) ⊎ ((number_of r ≡ n) × Breaks code p at rule)
+at-rule : (code : Code) (p : Protocol) (n : ℕ) (rule r : Rule) (at : ℕ) → number_of rule ≡ n → number_of r < n + 1 →
+    Breaks code p at r → (number_of r < n) ⊎ ((number_of r ≡ n) × Breaks code p at rule)
 at-rule code p n rule r at e lt b = elim (cases_lt (number_of r) n) [
   | inl less ↦ inl less
   | inr ge ↦ let s : number_of r ≡ n = omega arith in inr (s, subst (λ z. Breaks code p at z) (same-rule r rule (s ∙ sym e)) b)
@@ -45,7 +47,9 @@ at-or-after at k m n le few = elim (cases_lt at k) [ inl lt ↦ inl lt | inr ge 
 before : (at f k : ℕ) (P : Type 0) → at < f → (f < k) ⊎ ((f ≡ k) × P) → at < k
 before at f k P lt x = elim x [ inl u ↦ omega arith | inr v ↦ let e = v.0 in omega arith ]
 
-chosen : (code : Code) (p : Protocol) (n : ℕ) (rule : Rule) (f : Fault) (at : ℕ) (b : Bool) → nat_lt at f.at ≡ b → number_of rule ≡ n → IsLeast (λ k. Breaks code p k rule) (Some at) → FirstBelow code p n (Some f) → FirstBelow code p (n + 1) (if b then Some (fault at rule) else Some f)
+chosen : (code : Code) (p : Protocol) (n : ℕ) (rule : Rule) (f : Fault) (at : ℕ) (b : Bool) → nat_lt at f.at ≡ b →
+    number_of rule ≡ n → IsLeast (λ k. Breaks code p k rule) (Some at) → FirstBelow code p n (Some f) →
+    FirstBelow code p (n + 1) (if b then Some (fault at rule) else Some f)
 chosen code p n rule f at true t e h g =
     let lt = ltb-true at f.at t in (
       h.0,
@@ -62,16 +66,23 @@ chosen code p n rule f at false t e h g =
       omega arith,
       λ k r few b. elim (at-rule code p n rule r k e few b) [
         | inl less ↦ g.2 k r less b
-        | inr x ↦ let s = x.0 in let le = h.1 k x.1 in at-or-after f.at k (number_of f.rule) (number_of r) (omega arith) (omega arith)
+        | inr x ↦ let s = x.0 in let le = h.1 k x.1 in at-or-after f.at k (number_of f.rule) (number_of r) (omega arith)
+            (omega arith)
       ],
     )
 
 -- one rule more
-pub first_more : (code : Code) (p : Protocol) (n : ℕ) (rule : Rule) (f : Option Fault) (o : Option ℕ) → number_of rule ≡ n → IsLeast (λ k. Breaks code p k rule) o → FirstBelow code p n f → FirstBelow code p (n + 1) (sooner f o rule)
-first_more code p n rule None None e h g = λ k r few b. elim (at-rule code p n rule r k e few b) [ inl less ↦ g k r less b | inr x ↦ h k x.1 ]
+pub first_more : (code : Code) (p : Protocol) (n : ℕ) (rule : Rule) (f : Option Fault) (o : Option ℕ) → number_of rule ≡ n →
+    IsLeast (λ k. Breaks code p k rule) o → FirstBelow code p n f → FirstBelow code p (n + 1) (sooner f o rule)
+first_more code p n rule None None e h g = λ k r few b. elim
+    (at-rule code p n rule r k e few b) [ inl less ↦ g k r less b | inr x ↦ h k x.1 ]
 first_more code p n rule (Some f) None e h g =
-    let small = g.1 in
-    (g.0, omega arith, λ k r few b. elim (at-rule code p n rule r k e few b) [ inl less ↦ g.2 k r less b | inr x ↦ absurd (h k x.1) ])
+    let small = g.1 in (
+      g.0,
+      omega arith,
+      λ k r few b. elim (at-rule code p n rule r k e few b)
+          [ inl less ↦ g.2 k r less b | inr x ↦ absurd (h k x.1) ],
+    )
 first_more code p n rule None (Some at) e h g = (
   h.0,
   omega arith,
@@ -87,19 +98,24 @@ first_none code p = λ k r few b. let one = from_one r in absurd (omega arith)
 
 -- ---- where doors and rests fit
 
-to-broken : (code : Code) (p : Protocol) (at : ℕ) (rule : Rule) → is_structured p code ≡ true → Breaks code p at rule → IsBroken code p at rule
-to-broken code p at rule s b = subst (λ z. MatchBool z (Breaks code p at rule) ((at ≡ length code.ops) × (rule ≡ Ranges))) (sym s) b
+to-broken : (code : Code) (p : Protocol) (at : ℕ) (rule : Rule) → is_structured p code ≡ true → Breaks code p at rule →
+    IsBroken code p at rule
+to-broken code p at rule s b = subst (λ z. MatchBool z (Breaks code p at rule) ((at ≡ length code.ops) × (rule ≡ Ranges)))
+    (sym s) b
 
-from-broken : (code : Code) (p : Protocol) (at : ℕ) (rule : Rule) → is_structured p code ≡ true → IsBroken code p at rule → Breaks code p at rule
+from-broken : (code : Code) (p : Protocol) (at : ℕ) (rule : Rule) → is_structured p code ≡ true → IsBroken code p at rule →
+    Breaks code p at rule
 from-broken code p at rule s b = subst (λ z. MatchBool z (Breaks code p at rule) ((at ≡ length code.ops) × (rule ≡ Ranges))) s b
 
-from-unfit : (code : Code) (p : Protocol) (at : ℕ) (rule : Rule) → is_structured p code ≡ false → IsBroken code p at rule → (at ≡ length code.ops) × (rule ≡ Ranges)
+from-unfit : (code : Code) (p : Protocol) (at : ℕ) (rule : Rule) → is_structured p code ≡ false → IsBroken code p at rule →
+    (at ≡ length code.ops) × (rule ≡ Ranges)
 from-unfit code p at rule s b = subst (λ z. MatchBool z (Breaks code p at rule) ((at ≡ length code.ops) × (rule ≡ Ranges))) s b
 
 pub keeps_rules : (code : Code) (p : Protocol) → is_structured p code ≡ true → FirstBelow code p 10 None → KeepsRules code p
 keeps_rules code p s g = λ at rule b. g at rule (few_rules rule) (from-broken code p at rule s b)
 
-pub first_fault_is : (code : Code) (p : Protocol) (f : Fault) → is_structured p code ≡ true → FirstBelow code p 10 (Some f) → IsFirstFault code p f.at (number_of f.rule)
+pub first_fault_is : (code : Code) (p : Protocol) (f : Fault) → is_structured p code ≡ true → FirstBelow code p 10 (Some f) →
+    IsFirstFault code p f.at (number_of f.rule)
 first_fault_is code p f s g = record {
   rule = f.rule;
   numbered = refl;
@@ -111,6 +127,8 @@ pub unfit_is : (code : Code) (p : Protocol) → is_structured p code ≡ false �
 unfit_is code p s = record {
   rule = Ranges;
   numbered = refl;
-  broken = subst (λ z. MatchBool z (Breaks code p (length code.ops) Ranges) ((length code.ops ≡ length code.ops) × (Ranges ≡ Ranges))) (sym s) (refl, refl);
+  broken =
+      subst (λ z. MatchBool z (Breaks code p (length code.ops) Ranges)
+      ((length code.ops ≡ length code.ops) × (Ranges ≡ Ranges))) (sym s) (refl, refl);
   first = λ k r b. inr (sym (from-unfit code p k r s b).0, from_one r);
 }

@@ -11,7 +11,9 @@ use Rattle.code_walks.specs.Parts.{AtOp, Within}
 use Rattle.code_rules.specs.Rules.{Breaks, number_of}
 use Rattle.code_rules.specs.Tests.{BreaksAt, is_broken}
 
-pub plain_rule : (p : Protocol) (code : Code) (part : Part) (rule : Rule) (o : Option ℕ) → (rule ≡ Stack → ⊥) → (rule ≡ Types → ⊥) → IsLeast (Within part (λ at. is_broken p code part rule at ≡ true)) o → IsLeast (Within part (BreaksAt p code rule part)) o
+pub plain_rule : (p : Protocol) (code : Code) (part : Part) (rule : Rule) (o : Option ℕ) → (rule ≡ Stack → ⊥) →
+    (rule ≡ Types → ⊥) → IsLeast (Within part (λ at. is_broken p code part rule at ≡ true)) o →
+    IsLeast (Within part (BreaksAt p code rule part)) o
 plain_rule p code part Ranges o s t h = h
 plain_rule p code part Jumps o s t h = h
 plain_rule p code part Stack o s t h = absurd (s refl)
@@ -23,7 +25,8 @@ plain_rule p code part Doors o s t h = h
 plain_rule p code part Sets o s t h = h
 
 -- the rules that are broken at an op
-pub op_rule : (p : Protocol) (code : Code) (rule : Rule) → (rule ≡ Rests → ⊥) → (rule ≡ Live → ⊥) → (rule ≡ Doors → ⊥) → (o : Option ℕ) → IsLeast (AtOp code (BreaksAt p code rule)) o → IsLeast (λ at. Breaks code p at rule) o
+pub op_rule : (p : Protocol) (code : Code) (rule : Rule) → (rule ≡ Rests → ⊥) → (rule ≡ Live → ⊥) → (rule ≡ Doors → ⊥) →
+    (o : Option ℕ) → IsLeast (AtOp code (BreaksAt p code rule)) o → IsLeast (λ at. Breaks code p at rule) o
 op_rule p code Ranges r l d o h = h
 op_rule p code Jumps r l d o h = h
 op_rule p code Stack r l d o h = h

@@ -1,5 +1,6 @@
 -- Where the machine stands on code that keeps the rules.
-use Rattle.std.proofs.Common.{◌≡◌, ℕ, zero, suc, ◌+◌, ◌-◌, ◌<◌, ◌≤◌, ◌⊎◌, ◌==◌, ◌&&◌, Bool, true, false, not, List, [], ◌∷◌, Option, Some, None, drop, length, nat_lt, nat_le, inl, inr, ap, sym, subst, ◌∙◌, refl, arith}
+use Rattle.std.proofs.Common.{◌≡◌, ℕ, zero, suc, ◌+◌, ◌-◌, ◌<◌, ◌≤◌, ◌⊎◌, ◌==◌, ◌&&◌, Bool, true, false, not, List, [], ◌∷◌}
+use Rattle.std.proofs.Common.{Option, Some, None, drop, length, nat_lt, nat_le, inl, inr, ap, sym, subst, ◌∙◌, refl, arith}
 use Rattle.std.specs.Prelude.{if◌then◌else◌, slice_get, unwrap_or, MatchBool}
 use Rattle.std.specs.List.{list_all}
 use Rattle.std.proofs.Common.{add-one, length-drop}
@@ -15,7 +16,8 @@ use Rattle.handler_code.specs.declared.code.OpCode.{OpCode}
 use Rattle.handler_code.specs.declared.code.OpCode.TheVariants as op
 use Rattle.handler_code.specs.declared.code.Rest.{Rest}
 use Rattle.handler_code.specs.Live.{HasOp}
-use Rattle.handler_code.specs.Machine.{Machine, Next, Stop, Saved, Stopped, act, act_at, below, counted, landing, message_arity, move_of, place_of_rest, resumed, state_arity, top, turn, value_at}
+use Rattle.handler_code.specs.Machine.{Machine, Next, Stop, Saved, Stopped, act, act_at, below, counted, landing, message_arity}
+use Rattle.handler_code.specs.Machine.{move_of, place_of_rest, resumed, state_arity, top, turn, value_at}
 use Rattle.teapot_meaning.specs.Steps.{least_of, set_of}
 use Rattle.code_rules.specs.declared.fault.Rule.{Rule}
 use Rattle.code_rules.specs.declared.fault.Rule.TheVariants.{Ranges, Jumps, Stack, Ends, Rests}
@@ -44,10 +46,15 @@ structured p code k = by (is_structured p code) refl
   where
     by : (b : Bool) → is_structured p code ≡ b → is_structured p code ≡ true
     by true e = e
-    by false e = absurd (k (length code.ops) Ranges (subst (λ z. MatchBool z (Breaks code p (length code.ops) Ranges) ((length code.ops ≡ length code.ops) × (Ranges ≡ Ranges))) (sym e) (refl, refl)))
+    by false e =
+        absurd (k (length code.ops) Ranges
+        (subst (λ z. MatchBool z (Breaks code p (length code.ops) Ranges)
+        ((length code.ops ≡ length code.ops) × (Ranges ≡ Ranges))) (sym e) (refl, refl)))
 
 pub kept-rule : (p : Protocol) (code : Code) (k : KeepsRules code p) (at : ℕ) (rule : Rule) → Breaks code p at rule → ⊥
-kept-rule p code k at rule b = k at rule (subst (λ z. MatchBool z (Breaks code p at rule) ((at ≡ length code.ops) × (rule ≡ Ranges))) (sym (structured p code k)) b)
+kept-rule p code k at rule b =
+    k at rule (subst (λ z. MatchBool z (Breaks code p at rule) ((at ≡ length code.ops) × (rule ≡ Ranges)))
+    (sym (structured p code k)) b)
 
 -- a place in the handler behind a door
 pub record InPart (code : Code) (number : ℕ) (door : Door) (at : ℕ) : Type 0 where
@@ -55,29 +62,68 @@ pub record InPart (code : Code) (number : ℕ) (door : Door) (at : ℕ) : Type 0
   pub from : door.at ≤ at
   pub before : at < end_of code number
 
-pub served-at : (p : Protocol) (code : Code) (k : KeepsRules code p) (number : ℕ) (door : Door) (at : ℕ) → InPart code number door at → is_served p (op_at code at) (depth_at p code door.at (at - door.at)) ≡ true
+pub served-at : (p : Protocol) (code : Code) (k : KeepsRules code p) (number : ℕ) (door : Door) (at : ℕ) →
+    InPart code number door at → is_served p (op_at code at) (depth_at p code door.at (at - door.at)) ≡ true
 served-at p code k number door at i = bool-not (is_served p (op_at code at) (depth_at p code door.at (at - door.at)))
-    (λ h. kept-rule p code k at Stack (record { number = number; door = door; is_door = i.is_door; within = record { from = i.from; before = i.before; holds = inl h } }))
+    (λ h. kept-rule p code k at Stack (record {
+      number = number;
+      door = door;
+      is_door = i.is_door;
+      within = record { from = i.from; before = i.before; holds = inl h };
+    }))
 
-pub shallow-at : (p : Protocol) (code : Code) (k : KeepsRules code p) (number : ℕ) (door : Door) (at to : ℕ) → InPart code number door at → InPart code number door to → target (op_at code at) ≡ Some to → depth_at p code door.at (to - door.at) ≡ 0
+pub shallow-at : (p : Protocol) (code : Code) (k : KeepsRules code p) (number : ℕ) (door : Door) (at to : ℕ) →
+    InPart code number door at → InPart code number door to → target (op_at code at) ≡ Some to →
+    depth_at p code door.at (to - door.at) ≡ 0
 shallow-at p code k number door at to i j t = elim (cases_lt 0 (depth_at p code door.at (to - door.at))) [
-  | inl deep ↦ absurd (kept-rule p code k to Stack (record { number = number; door = door; is_door = j.is_door; within = record { from = j.from; before = j.before; holds = inr (record { at = at; from = i.from; before = i.before; leads = t; deep = deep }) } }))
+  | inl deep ↦ absurd
+      (kept-rule p code k to Stack (record {
+        number = number;
+        door = door;
+        is_door = j.is_door;
+        within = record {
+          from = j.from;
+          before = j.before;
+          holds = inr
+              (record { at = at; from = i.from; before = i.before; leads = t; deep = deep });
+        };
+      }))
   | inr ge ↦ omega arith
 ]
 
-pub well-at : (p : Protocol) (code : Code) (k : KeepsRules code p) (number : ℕ) (door : Door) (at : ℕ) → InPart code number door at → leads_well (loops_of code (part_of code number door)) code (part_of code number door) at (op_at code at) ≡ true
-well-at p code k number door at i = bool-not (leads_well (loops_of code (part_of code number door)) code (part_of code number door) at (op_at code at))
-    (λ h. kept-rule p code k at Jumps (record { number = number; door = door; is_door = i.is_door; within = record { from = i.from; before = i.before; holds = h } }))
+pub well-at : (p : Protocol) (code : Code) (k : KeepsRules code p) (number : ℕ) (door : Door) (at : ℕ) →
+    InPart code number door at → leads_well (loops_of code (part_of code number door)) code (part_of code number door) at
+    (op_at code at) ≡ true
+well-at p code k number door at i =
+    bool-not (leads_well (loops_of code (part_of code number door)) code (part_of code number door) at (op_at code at))
+    (λ h. kept-rule p code k at Jumps (record {
+      number = number;
+      door = door;
+      is_door = i.is_door;
+      within = record { from = i.from; before = i.before; holds = h };
+    }))
 
 two-true : (a b : Bool) → a ≡ true → b ≡ true → (a && b) ≡ true
 two-true a b e f = ap (λ z. z && b) e ∙ f
 
-pub done-at : (p : Protocol) (code : Code) (k : KeepsRules code p) (number : ℕ) (door : Door) (at : ℕ) → InPart code number door at → at + 1 ≡ end_of code number → is_done (op_at code at) ≡ true
+pub done-at : (p : Protocol) (code : Code) (k : KeepsRules code p) (number : ℕ) (door : Door) (at : ℕ) →
+    InPart code number door at → at + 1 ≡ end_of code number → is_done (op_at code at) ≡ true
 done-at p code k number door at i e = bool-false (is_done (op_at code at))
-    (λ f. kept-rule p code k at Ends (record { number = number; door = door; is_door = i.is_door; within = record { from = i.from; before = i.before; holds = two-true (at + 1 == end_of code number) (not (is_done (op_at code at))) (eq-eqb (at + 1) (end_of code number) e) (ap not f) } }))
+    (λ f. kept-rule p code k at Ends (record {
+      number = number;
+      door = door;
+      is_door = i.is_door;
+      within = record {
+        from = i.from;
+        before = i.before;
+        holds = two-true (at + 1 == end_of code number)
+            (not (is_done (op_at code at))) (eq-eqb (at + 1) (end_of code number) e) (ap not f);
+      };
+    }))
 
 -- an op that is not Done has one behind it
-pub next-in : (p : Protocol) (code : Code) (k : KeepsRules code p) (number : ℕ) (door : Door) (at : ℕ) → InPart code number door at → is_done (op_at code at) ≡ false → InPart code number door (at + 1)
+pub next-in : (p : Protocol) (code : Code) (k : KeepsRules code p) (number : ℕ) (door : Door) (at : ℕ) →
+    InPart code number door at → is_done (op_at code at) ≡ false → InPart code number door (at + 1)
 next-in p code k number door at i f =
     let lt = i.before in
     let from = i.from in
@@ -88,12 +134,14 @@ next-in p code k number door at i f =
 
 -- ---- doors and rests
 
-list-all-at : {X : Type 0} (t : X → Bool) (xs : List X) (i : ℕ) (x : X) → list_all t xs ≡ true → slice_get xs i ≡ Some x → t x ≡ true
+list-all-at : {X : Type 0} (t : X → Bool) (xs : List X) (i : ℕ) (x : X) → list_all t xs ≡ true → slice_get xs i ≡ Some x →
+    t x ≡ true
 list-all-at t [] i x h e = let w = slice_get_within [] i x e in absurd (omega arith)
 list-all-at t (y ∷ xs) zero x h e = let q : y ≡ x = cc in subst (λ z. t z ≡ true) q (and_parts (t y) (list_all t xs) h).0
 list-all-at t (y ∷ xs) (suc i) x h e = list-all-at t xs i x (and_parts (t y) (list_all t xs) h).1 e
 
-pub rises-at : (least : ℕ) (ds : List Door) (i : ℕ) (a b : Door) → rises_from least ds ≡ true → slice_get ds i ≡ Some a → slice_get ds (suc i) ≡ Some b → a.at < b.at
+pub rises-at : (least : ℕ) (ds : List Door) (i : ℕ) (a b : Door) → rises_from least ds ≡ true → slice_get ds i ≡ Some a →
+    slice_get ds (suc i) ≡ Some b → a.at < b.at
 rises-at least [] i a b r e f = let w = slice_get_within [] i a e in absurd (omega arith)
 rises-at least (d ∷ []) zero a b r e f = let w = slice_get_within (d ∷ []) 1 b f in absurd (omega arith)
 rises-at least (d ∷ (c ∷ ds)) zero a b r e f =
@@ -103,7 +151,8 @@ rises-at least (d ∷ (c ∷ ds)) zero a b r e f =
     let q : d ≡ a = cc in
     let s : c ≡ b = cc in
     subst (λ u. u.at < b.at) q (subst (λ u. d.at < u.at) s (omega arith))
-rises-at least (d ∷ ds) (suc i) a b r e f = rises-at (d.at + 1) ds i a b (and_parts (nat_le least d.at) (rises_from (d.at + 1) ds) r).1 e f
+rises-at least (d ∷ ds) (suc i) a b r e f = rises-at (d.at + 1) ds i a b
+    (and_parts (nat_le least d.at) (rises_from (d.at + 1) ds) r).1 e f
 
 -- what the structure says
 pub record Fitting (p : Protocol) (code : Code) : Type 0 where
@@ -113,12 +162,17 @@ pub record Fitting (p : Protocol) (code : Code) : Type 0 where
 
 pub fitting : (p : Protocol) (code : Code) → KeepsRules code p → Fitting p code
 fitting p code k =
-    let a = and_parts (begins code.doors (length code.ops)) (rises_from 0 code.doors && (list_all (is_door_of p (length code.ops)) code.doors && list_all (is_rest_of code.doors (length code.ops)) code.rests)) (structured p code k) in
-    let b = and_parts (rises_from 0 code.doors) (list_all (is_door_of p (length code.ops)) code.doors && list_all (is_rest_of code.doors (length code.ops)) code.rests) a.1 in
-    let c = and_parts (list_all (is_door_of p (length code.ops)) code.doors) (list_all (is_rest_of code.doors (length code.ops)) code.rests) b.1 in
+    let a = and_parts (begins code.doors (length code.ops)) (rises_from 0 code.doors
+    && (list_all (is_door_of p (length code.ops)) code.doors && list_all
+    (is_rest_of code.doors (length code.ops)) code.rests)) (structured p code k) in
+    let b = and_parts (rises_from 0 code.doors) (list_all (is_door_of p (length code.ops)) code.doors && list_all
+    (is_rest_of code.doors (length code.ops)) code.rests) a.1 in
+    let c = and_parts (list_all (is_door_of p (length code.ops)) code.doors)
+    (list_all (is_rest_of code.doors (length code.ops)) code.rests) b.1 in
     record { begin = a.0; rise = b.0; doors = c.0 }
 
-door-lt : (p : Protocol) (code : Code) → Fitting p code → (number : ℕ) (door : Door) → slice_get code.doors number ≡ Some door → door.at < length code.ops
+door-lt : (p : Protocol) (code : Code) → Fitting p code → (number : ℕ) (door : Door) →
+    slice_get code.doors number ≡ Some door → door.at < length code.ops
 door-lt p code f number door e =
     let h = list-all-at (is_door_of p (length code.ops)) code.doors number door f.doors e in
     ltb-true door.at (length code.ops) (and_parts _ (nat_lt door.at (length code.ops)) h).1
@@ -126,22 +180,28 @@ door-lt p code f number door e =
 pub end-le : (p : Protocol) (code : Code) → Fitting p code → (number : ℕ) → end_of code number ≤ length code.ops
 end-le p code f number = by (slice_get code.doors (number + 1)) refl
   where
-    by : (o : Option Door) → slice_get code.doors (number + 1) ≡ o → place_or (slice_get code.doors (number + 1)) (length code.ops) ≤ length code.ops
-    by (Some d) e = let lt = door-lt p code f (number + 1) d e in subst (λ z. place_or z (length code.ops) ≤ length code.ops) (sym e) (omega arith)
+    by : (o : Option Door) → slice_get code.doors (number + 1) ≡ o →
+        place_or (slice_get code.doors (number + 1)) (length code.ops) ≤ length code.ops
+    by (Some d) e = let lt = door-lt p code f (number + 1) d e in subst (λ z. place_or z (length code.ops) ≤ length code.ops)
+        (sym e) (omega arith)
     by None e = subst (λ z. place_or z (length code.ops) ≤ length code.ops) (sym e) (omega arith)
 
-pub door-in : (p : Protocol) (code : Code) → Fitting p code → (number : ℕ) (door : Door) → slice_get code.doors number ≡ Some door → InPart code number door door.at
+pub door-in : (p : Protocol) (code : Code) → Fitting p code → (number : ℕ) (door : Door) →
+    slice_get code.doors number ≡ Some door → InPart code number door door.at
 door-in p code f number door e = record { is_door = e; from = omega arith; before = by (slice_get code.doors (number + 1)) refl }
   where
-    by : (o : Option Door) → slice_get code.doors (number + 1) ≡ o → door.at < place_or (slice_get code.doors (number + 1)) (length code.ops)
-    by (Some d) g = subst (λ z. door.at < place_or z (length code.ops)) (sym g) (rises-at 0 code.doors number door d f.rise e (subst (λ z. slice_get code.doors z ≡ Some d) (add-one number) g))
+    by : (o : Option Door) → slice_get code.doors (number + 1) ≡ o →
+        door.at < place_or (slice_get code.doors (number + 1)) (length code.ops)
+    by (Some d) g = subst (λ z. door.at < place_or z (length code.ops)) (sym g)
+        (rises-at 0 code.doors number door d f.rise e (subst (λ z. slice_get code.doors z ≡ Some d) (add-one number) g))
     by None g = subst (λ z. door.at < place_or z (length code.ops)) (sym g) (door-lt p code f number door e)
 
 pub first-of : (ds : List Door) (n : ℕ) → begins ds n ≡ true → 0 < n → (d : Door) × (slice_get ds 0 ≡ Some d) × (d.at ≡ 0)
 first-of [] n b lt = let e = eqb-true n 0 b in absurd (omega arith)
 first-of (d ∷ ds) n b lt = (d, refl, eqb-true d.at 0 b)
 
-behind : (code : Code) (number : ℕ) (o : Option Door) (at : ℕ) → slice_get code.doors number ≡ o → is_behind code number o at ≡ true → (door : Door) × InPart code number door at
+behind : (code : Code) (number : ℕ) (o : Option Door) (at : ℕ) → slice_get code.doors number ≡ o →
+    is_behind code number o at ≡ true → (door : Door) × InPart code number door at
 behind code number (Some door) at e h =
     let a = and_parts (nat_le door.at at) (nat_lt at (end_of code number)) h in
     (door, record { is_door = e; from = leb-true door.at at a.0; before = ltb-true at (end_of code number) a.1 })
@@ -166,27 +226,41 @@ pub record Empty (p : Protocol) (code : Code) (at : ℕ) : Type 0 where
   pub inside : InPart code number door at
   pub deep : depth_at p code door.at (at - door.at) ≡ 0
 
-at-door-empty : (p : Protocol) (code : Code) → Fitting p code → (number : ℕ) (door : Door) → slice_get code.doors number ≡ Some door → Empty p code door.at
-at-door-empty p code f number door e = record { number = number; door = door; inside = door-in p code f number door e; deep = depth_none p code door.at }
+at-door-empty : (p : Protocol) (code : Code) → Fitting p code → (number : ℕ) (door : Door) →
+    slice_get code.doors number ≡ Some door → Empty p code door.at
+at-door-empty p code f number door e = record {
+  number = number;
+  door = door;
+  inside = door-in p code f number door e;
+  deep = depth_none p code door.at;
+}
 
-pub at-rest-empty : (p : Protocol) (code : Code) (k : KeepsRules code p) (number : ℕ) (rest : Rest) → slice_get code.rests number ≡ Some rest → Empty p code rest.at
+pub at-rest-empty : (p : Protocol) (code : Code) (k : KeepsRules code p) (number : ℕ) (rest : Rest) →
+    slice_get code.rests number ≡ Some rest → Empty p code rest.at
 at-rest-empty p code k number rest e =
-    let placed = bool-false (is_placed code number rest) (λ f. kept-rule p code k rest.at Rests (record { number = number; rest = rest; is_rest = e; place = refl; holds = f })) in
+    let placed =
+    bool-false (is_placed code number rest) (λ f. kept-rule p code k rest.at Rests
+    (record { number = number; rest = rest; is_rest = e; place = refl; holds = f })) in
     let at = rest.at - 1 in
-    let a = and_parts _ (nat_lt 0 rest.at && (suspends_to number (op_at code at) && is_behind code rest.door (slice_get code.doors rest.door) at)) placed in
-    let b = and_parts (nat_lt 0 rest.at) (suspends_to number (op_at code at) && is_behind code rest.door (slice_get code.doors rest.door) at) a.1 in
+    let a = and_parts _
+    (nat_lt 0 rest.at && (suspends_to number (op_at code at) && is_behind code rest.door
+    (slice_get code.doors rest.door) at)) placed in
+    let b = and_parts (nat_lt 0 rest.at) (suspends_to number (op_at code at) && is_behind code rest.door
+    (slice_get code.doors rest.door) at) a.1 in
     let c = and_parts (suspends_to number (op_at code at)) (is_behind code rest.door (slice_get code.doors rest.door) at) b.1 in
     let w = behind code rest.door (slice_get code.doors rest.door) at refl c.1 in
     let up = ltb-true 0 rest.at b.0 in
     let same : at + 1 ≡ rest.at = omega arith in
     let i = next-in p code k rest.door w.0 at w.1 (suspend-not-done number (op_at code at) c.0) in
     let d = depth_more p code w.0.at at w.1.from in
-    let z = zero-by (is_value (op_at code at)) (taken_by p (op_at code at)) (depth_at p code w.0.at (at - w.0.at)) (suspend-no-value number (op_at code at) c.0) in
+    let z = zero-by (is_value (op_at code at)) (taken_by p (op_at code at)) (depth_at p code w.0.at (at - w.0.at))
+    (suspend-no-value number (op_at code at) c.0) in
     subst (λ y. Empty p code y) same (record { number = rest.door; door = w.0; inside = i; deep = d ∙ z })
 
 -- ---- one op
 
-on-place : (p : Protocol) (code : Code) → Fitting p code → (a : Machine) (number : ℕ) (door : Door) (at : ℕ) → InPart code number door at → a.at ≡ at → length a.stack ≡ depth_at p code door.at (at - door.at) → IsOnWalk p code a
+on-place : (p : Protocol) (code : Code) → Fitting p code → (a : Machine) (number : ℕ) (door : Door) (at : ℕ) →
+    InPart code number door at → a.at ≡ at → length a.stack ≡ depth_at p code door.at (at - door.at) → IsOnWalk p code a
 on-place p code f a number door at i e d =
     let le = end-le p code f number in
     let lt = i.before in
@@ -201,7 +275,8 @@ on-place p code f a number door at i e d =
       deep = subst (λ z. length a.stack ≡ depth_at p code door.at (z - door.at)) (sym e) d;
     }
 
-on-empty : (p : Protocol) (code : Code) → Fitting p code → (a : Machine) (at : ℕ) → Empty p code at → a.at ≡ at → length a.stack ≡ 0 → IsOnWalk p code a
+on-empty : (p : Protocol) (code : Code) → Fitting p code → (a : Machine) (at : ℕ) → Empty p code at → a.at ≡ at →
+    length a.stack ≡ 0 → IsOnWalk p code a
 on-empty p code f a at x e d = on-place p code f a x.number x.door at x.inside e (d ∙ sym x.deep)
 
 next-is : (a b : Machine) → Next a ≡ Next b → a ≡ b
@@ -213,7 +288,9 @@ op-is code at o h = ap (λ z. unwrap_or z op.Done) h
 in-part : (p : Protocol) (code : Code) (m : Machine) (w : IsOnWalk p code m) → InPart code w.number w.door m.at
 in-part p code m w = record { is_door = w.is_door; from = w.from; before = w.before }
 
-advance : (p : Protocol) (code : Code) (k : KeepsRules code p) (m : Machine) → IsOnWalk p code m → (o : OpCode) → HasOp code.ops m.at o → (a next : Machine) → Next a ≡ Next next → is_done o ≡ false → a.at ≡ m.at + 1 → length a.stack ≡ depth_after p o (length m.stack) → IsOnWalk p code next
+advance : (p : Protocol) (code : Code) (k : KeepsRules code p) (m : Machine) → IsOnWalk p code m → (o : OpCode) →
+    HasOp code.ops m.at o → (a next : Machine) → Next a ≡ Next next → is_done o ≡ false → a.at ≡ m.at + 1 →
+    length a.stack ≡ depth_after p o (length m.stack) → IsOnWalk p code next
 advance p code k m w o h a next e nd at d =
     let s = op-is code m.at o h in
     let i = next-in p code k w.number w.door m.at (in-part p code m w) (subst (λ z. is_done z ≡ false) (sym s) nd) in
@@ -223,7 +300,9 @@ advance p code k m w o h a next e nd at d =
     subst (λ z. IsOnWalk p code z) (next-is a next e)
     (on-place p code (fitting p code k) a w.number w.door (m.at + 1) i at (d ∙ q ∙ r ∙ sym g))
 
-jump : (p : Protocol) (code : Code) (k : KeepsRules code p) (m : Machine) (w : IsOnWalk p code m) (o : OpCode) (to : ℕ) → HasOp code.ops m.at o → (a next : Machine) → Next a ≡ Next next → target o ≡ Some to → w.door.at ≤ to → to < end_of code w.number → a.at ≡ to → length a.stack ≡ 0 → IsOnWalk p code next
+jump : (p : Protocol) (code : Code) (k : KeepsRules code p) (m : Machine) (w : IsOnWalk p code m) (o : OpCode) (to : ℕ) →
+    HasOp code.ops m.at o → (a next : Machine) → Next a ≡ Next next → target o ≡ Some to → w.door.at ≤ to →
+    to < end_of code w.number → a.at ≡ to → length a.stack ≡ 0 → IsOnWalk p code next
 jump p code k m w o to h a next e t from before at d =
     let s = op-is code m.at o h in
     let j : InPart code w.number w.door to = record { is_door = w.is_door; from = from; before = before } in
@@ -256,7 +335,9 @@ back-not-done at op.Done e f = cc
 back-not-done at _ e f = cc
 
 -- the place to which a loop leads is in the handler
-pub loop-end : (p : Protocol) (code : Code) (k : KeepsRules code p) (number : ℕ) (door : Door) (at to : ℕ) → InPart code number door at → at + 1 < to → to ≤ end_of code number → is_back_to at (op_at code (to - 1)) ≡ true → to < end_of code number
+pub loop-end : (p : Protocol) (code : Code) (k : KeepsRules code p) (number : ℕ) (door : Door) (at to : ℕ) →
+    InPart code number door at → at + 1 < to → to ≤ end_of code number → is_back_to at (op_at code (to - 1)) ≡ true →
+    to < end_of code number
 loop-end p code k number door at to i lt le b = elim (cases_lt to (end_of code number)) [
   | inl less ↦ less
   | inr ge ↦
@@ -266,33 +347,46 @@ loop-end p code k number door at to i lt le b = elim (cases_lt to (end_of code n
 ]
 
 -- what the rules say of the op at hand
-well-of : (p : Protocol) (code : Code) (k : KeepsRules code p) (m : Machine) (w : IsOnWalk p code m) (o : OpCode) → HasOp code.ops m.at o → leads_well (loops_of code (part_of code w.number w.door)) code (part_of code w.number w.door) m.at o ≡ true
+well-of : (p : Protocol) (code : Code) (k : KeepsRules code p) (m : Machine) (w : IsOnWalk p code m) (o : OpCode) →
+    HasOp code.ops m.at o → leads_well (loops_of code (part_of code w.number w.door)) code
+    (part_of code w.number w.door) m.at o ≡ true
 well-of p code k m w o h =
-    subst (λ z. leads_well (loops_of code (part_of code w.number w.door)) code (part_of code w.number w.door) m.at z ≡ true) (op-is code m.at o h)
+    subst (λ z. leads_well (loops_of code (part_of code w.number w.door)) code (part_of code w.number w.door) m.at z ≡ true)
+    (op-is code m.at o h)
     (well-at p code k w.number w.door m.at (in-part p code m w))
 
-served-of : (p : Protocol) (code : Code) (k : KeepsRules code p) (m : Machine) (w : IsOnWalk p code m) → is_served p (op_at code m.at) (length m.stack) ≡ true
+served-of : (p : Protocol) (code : Code) (k : KeepsRules code p) (m : Machine) (w : IsOnWalk p code m) →
+    is_served p (op_at code m.at) (length m.stack) ≡ true
 served-of p code k m w =
-    subst (λ z. is_served p (op_at code m.at) z ≡ true) (sym w.deep) (served-at p code k w.number w.door m.at (in-part p code m w))
+    subst (λ z. is_served p (op_at code m.at) z ≡ true) (sym w.deep)
+    (served-at p code k w.number w.door m.at (in-part p code m w))
 
-rest-case : (p : Protocol) (code : Code) (k : KeepsRules code p) (m a : Machine) → IsOnWalk p code m → (r : ℕ) (o : Option Rest) → slice_get code.rests r ≡ o → a.at ≡ place_of_rest o → length a.stack ≡ 0 → IsOnWalk p code a
-rest-case p code k m a w r (Some rest) e at d = on-empty p code (fitting p code k) a rest.at (at-rest-empty p code k r rest e) at d
+rest-case : (p : Protocol) (code : Code) (k : KeepsRules code p) (m a : Machine) → IsOnWalk p code m →
+    (r : ℕ) (o : Option Rest) → slice_get code.rests r ≡ o → a.at ≡ place_of_rest o → length a.stack ≡ 0 → IsOnWalk p code a
+rest-case p code k m a w r (Some rest) e at d = on-empty p code (fitting p code k) a rest.at
+    (at-rest-empty p code k r rest e) at d
 rest-case p code k m a w r None e at d =
     let i = w.inside in
     let f = fitting p code k in
     let x = first-of code.doors (length code.ops) f.begin (omega arith) in
     on-empty p code f a 0 (subst (λ z. Empty p code z) x.2 (at-door-empty p code f 0 x.0 x.1)) at d
 
-resume-case : (p : Protocol) (code : Code) (k : KeepsRules code p) (m next : Machine) → IsOnWalk p code m → (chain : List Saved) → resumed code (counted m) chain ≡ Next next → IsOnWalk p code next
+resume-case : (p : Protocol) (code : Code) (k : KeepsRules code p) (m next : Machine) → IsOnWalk p code m →
+    (chain : List Saved) → resumed code (counted m) chain ≡ Next next → IsOnWalk p code next
 resume-case p code k m next w [] e = absurd (stop-not-next _ next e)
-resume-case p code k m next w (s ∷ chain) e = subst (λ z. IsOnWalk p code z) (next-is _ next e) (rest-case p code k m _ w s.rest (slice_get code.rests s.rest) refl refl refl)
+resume-case p code k m next w (s ∷ chain) e = subst (λ z. IsOnWalk p code z) (next-is _ next e)
+    (rest-case p code k m _ w s.rest (slice_get code.rests s.rest) refl refl refl)
 
-each-case : (p : Protocol) (code : Code) (k : KeepsRules code p) (m next : Machine) (w : IsOnWalk p code m) (x h to : ℕ) → HasOp code.ops m.at (op.EachNext x h to) → length m.stack ≡ 0 → w.door.at ≤ to → to < end_of code w.number →
+each-case : (p : Protocol) (code : Code) (k : KeepsRules code p) (m next : Machine) (w : IsOnWalk p code m) (x h to : ℕ) →
+    HasOp code.ops m.at (op.EachNext x h to) → length m.stack ≡ 0 → w.door.at ≤ to → to < end_of code w.number →
     (set : List Bool) (n : Option ℕ) → Next (turn m x h to set n) ≡ Next next → IsOnWalk p code next
-each-case p code k m next w x h to has empty from before set None e = jump p code k m w (op.EachNext x h to) to has _ next e refl from before refl empty
-each-case p code k m next w x h to has empty from before set (Some n) e = advance p code k m w (op.EachNext x h to) has _ next e refl refl empty
+each-case p code k m next w x h to has empty from before set None e =
+    jump p code k m w (op.EachNext x h to) to has _ next e refl from before refl empty
+each-case p code k m next w x h to has empty from before set (Some n) e =
+    advance p code k m w (op.EachNext x h to) has _ next e refl refl empty
 
-go : (p : Protocol) (code : Code) (k : KeepsRules code p) (m next : Machine) → IsOnWalk p code m → (o : OpCode) → HasOp code.ops m.at o → is_served p o (length m.stack) ≡ true → act p code o m ≡ Next next → IsOnWalk p code next
+go : (p : Protocol) (code : Code) (k : KeepsRules code p) (m next : Machine) → IsOnWalk p code m → (o : OpCode) →
+    HasOp code.ops m.at o → is_served p o (length m.stack) ≡ true → act p code o m ≡ Next next → IsOnWalk p code next
 go p code k m next w (op.Const x) h s e = advance p code k m w (op.Const x) h _ next e refl refl (omega arith)
 go p code k m next w (op.Get x) h s e = advance p code k m w (op.Get x) h _ next e refl refl (omega arith)
 go p code k m next w (op.GetInfo x) h s e = advance p code k m w (op.GetInfo x) h _ next e refl refl (omega arith)
@@ -300,32 +394,42 @@ go p code k m next w op.Me h s e = advance p code k m w op.Me h _ next e refl re
 go p code k m next w op.Home h s e = advance p code k m w op.Home h _ next e refl refl (omega arith)
 go p code k m next w op.One h s e = let b = below-length m.stack in advance p code k m w op.One h _ next e refl refl (omega arith)
 go p code k m next w op.Not h s e = let b = below-length m.stack in advance p code k m w op.Not h _ next e refl refl (omega arith)
-go p code k m next w op.Count h s e = let b = below-length m.stack in advance p code k m w op.Count h _ next e refl refl (omega arith)
-go p code k m next w (op.Two o) h s e = let b = below-length m.stack in let c = below-length (below m.stack) in advance p code k m w (op.Two o) h _ next e refl refl (omega arith)
-go p code k m next w (op.Put x) h s e = let d = eqb-true (length m.stack) 1 s in let b = below-length m.stack in advance p code k m w (op.Put x) h _ next e refl refl (omega arith)
-go p code k m next w (op.PutInfo x) h s e = let d = eqb-true (length m.stack) 1 s in let b = below-length m.stack in advance p code k m w (op.PutInfo x) h _ next e refl refl (omega arith)
+go p code k m next w op.Count h s e = let b = below-length m.stack in advance p code k m w op.Count h _ next e refl refl
+    (omega arith)
+go p code k m next w (op.Two o) h s e = let b = below-length m.stack in let c =
+    below-length (below m.stack) in advance p code k m w (op.Two o) h _ next e refl refl (omega arith)
+go p code k m next w (op.Put x) h s e = let d = eqb-true (length m.stack) 1 s in let b =
+    below-length m.stack in advance p code k m w (op.Put x) h _ next e refl refl (omega arith)
+go p code k m next w (op.PutInfo x) h s e = let d = eqb-true (length m.stack) 1 s in let b =
+    below-length m.stack in advance p code k m w (op.PutInfo x) h _ next e refl refl (omega arith)
 go p code k m next w (op.JumpIfNot to) h s e =
     let d = eqb-true (length m.stack) 1 s in
     let b = below-length m.stack in
     let empty : length (below m.stack) ≡ 0 = omega arith in
-    let a = and_parts (nat_lt m.at to) (nat_lt to (end_of code w.number) && list_all (is_not_entered m.at to) (loops_of code (part_of code w.number w.door))) (well-of p code k m w (op.JumpIfNot to) h) in
-    let c = and_parts (nat_lt to (end_of code w.number)) (list_all (is_not_entered m.at to) (loops_of code (part_of code w.number w.door))) a.1 in
+    let a = and_parts (nat_lt m.at to) (nat_lt to (end_of code w.number) && list_all (is_not_entered m.at to)
+    (loops_of code (part_of code w.number w.door))) (well-of p code k m w (op.JumpIfNot to) h) in
+    let c = and_parts (nat_lt to (end_of code w.number)) (list_all (is_not_entered m.at to)
+    (loops_of code (part_of code w.number w.door))) a.1 in
     let up = ltb-true m.at to a.0 in
     let from = w.from in
     elim (landing-is (top m.stack) (m.at + 1) to) [
       | inl l ↦ advance p code k m w (op.JumpIfNot to) h _ next e refl l empty
-      | inr l ↦ jump p code k m w (op.JumpIfNot to) to h _ next e refl (omega arith) (ltb-true to (end_of code w.number) c.0) l empty
+      | inr l ↦ jump p code k m w (op.JumpIfNot to) to h _ next e refl (omega arith)
+          (ltb-true to (end_of code w.number) c.0) l empty
     ]
 go p code k m next w (op.Jump to) h s e =
     let d = eqb-true (length m.stack) 0 s in
-    let a = and_parts (nat_lt m.at to) (nat_lt to (end_of code w.number) && list_all (is_not_entered m.at to) (loops_of code (part_of code w.number w.door))) (well-of p code k m w (op.Jump to) h) in
-    let c = and_parts (nat_lt to (end_of code w.number)) (list_all (is_not_entered m.at to) (loops_of code (part_of code w.number w.door))) a.1 in
+    let a = and_parts (nat_lt m.at to) (nat_lt to (end_of code w.number) && list_all (is_not_entered m.at to)
+    (loops_of code (part_of code w.number w.door))) (well-of p code k m w (op.Jump to) h) in
+    let c = and_parts (nat_lt to (end_of code w.number)) (list_all (is_not_entered m.at to)
+    (loops_of code (part_of code w.number w.door))) a.1 in
     let up = ltb-true m.at to a.0 in
     let from = w.from in
     jump p code k m w (op.Jump to) to h _ next e refl (omega arith) (ltb-true to (end_of code w.number) c.0) refl d
 go p code k m next w (op.JumpBack to) h s e =
     let d = eqb-true (length m.stack) 0 s in
-    let a = and_parts (nat_le w.door.at to) (nat_lt to m.at && is_each_to (m.at + 1) (op_at code to)) (well-of p code k m w (op.JumpBack to) h) in
+    let a = and_parts (nat_le w.door.at to) (nat_lt to m.at && is_each_to (m.at + 1) (op_at code to))
+    (well-of p code k m w (op.JumpBack to) h) in
     let c = and_parts (nat_lt to m.at) (is_each_to (m.at + 1) (op_at code to)) a.1 in
     let down = ltb-true to m.at c.0 in
     let before = w.before in
@@ -333,13 +437,17 @@ go p code k m next w (op.JumpBack to) h s e =
 go p code k m next w (op.EachNext x y to) h s e =
     let d = eqb-true (length m.stack) 0 s in
     let part = part_of code w.number w.door in
-    let a = and_parts (nat_lt (m.at + 1) to) (nat_le to (end_of code w.number) && (is_back_to m.at (op_at code (to - 1)) && list_all (is_nested m.at to) (loops_of code part))) (well-of p code k m w (op.EachNext x y to) h) in
-    let b = and_parts (nat_le to (end_of code w.number)) (is_back_to m.at (op_at code (to - 1)) && list_all (is_nested m.at to) (loops_of code part)) a.1 in
+    let a = and_parts (nat_lt (m.at + 1) to) (nat_le to (end_of code w.number)
+    && (is_back_to m.at (op_at code (to - 1)) && list_all (is_nested m.at to) (loops_of code part)))
+    (well-of p code k m w (op.EachNext x y to) h) in
+    let b = and_parts (nat_le to (end_of code w.number)) (is_back_to m.at (op_at code (to - 1)) && list_all (is_nested m.at to)
+    (loops_of code part)) a.1 in
     let c = and_parts (is_back_to m.at (op_at code (to - 1))) (list_all (is_nested m.at to) (loops_of code part)) b.1 in
     let up = ltb-true (m.at + 1) to a.0 in
     let from = w.from in
     let before = loop-end p code k w.number w.door m.at to (in-part p code m w) up (leb-true to (end_of code w.number) b.0) c.0 in
-    each-case p code k m next w x y to h d (omega arith) before (set_of (value_at m.slots y)) (least_of (set_of (value_at m.slots y))) e
+    each-case p code k m next w x y to h d (omega arith) before (set_of (value_at m.slots y))
+    (least_of (set_of (value_at m.slots y))) e
 go p code k m next w (op.Tag x) h s e = advance p code k m w (op.Tag x) h _ next e refl refl (eqb-true (length m.stack) 0 s)
 go p code k m next w op.Install h s e = advance p code k m w op.Install h _ next e refl refl (eqb-true (length m.stack) 0 s)
 go p code k m next w op.Enqueue h s e = advance p code k m w op.Enqueue h _ next e refl refl (eqb-true (length m.stack) 0 s)
@@ -370,7 +478,8 @@ has-op [] at lt = absurd (omega arith)
 has-op (x ∷ xs) zero lt = (x, refl)
 has-op (x ∷ xs) (suc at) lt = has-op xs at (omega arith)
 
-step : (p : Protocol) (code : Code) (k : KeepsRules code p) (m next : Machine) → IsOnWalk p code m → move_of p code m ≡ Next next → IsOnWalk p code next
+step : (p : Protocol) (code : Code) (k : KeepsRules code p) (m next : Machine) → IsOnWalk p code m →
+    move_of p code m ≡ Next next → IsOnWalk p code next
 step p code k m next w e =
     let o = has-op code.ops m.at w.inside in
     let a : act_at p code (Some o.0) m ≡ Next next = subst (λ z. act_at p code z m ≡ Next next) o.1 e in
@@ -381,11 +490,13 @@ start : (p : Protocol) (code : Code) (k : KeepsRules code p) (m : Machine) → I
 start p code k m s =
     let d = ap length s.empty in
     elim s.place [
-      | inl x ↦ on-empty p code (fitting p code k) m x.door.at (at-door-empty p code (fitting p code k) x.number x.door x.is_door) (sym x.place) d
+      | inl x ↦ on-empty p code (fitting p code k) m x.door.at
+          (at-door-empty p code (fitting p code k) x.number x.door x.is_door) (sym x.place) d
       | inr x ↦ on-empty p code (fitting p code k) m x.rest.at (at-rest-empty p code k x.number x.rest x.is_rest) (sym x.place) d
     ]
 
-walks : (p : Protocol) (code : Code) (k : KeepsRules code p) (first : Machine) → IsStart code first → {m : Machine} → Reaches p code first m → IsOnWalk p code m
+walks : (p : Protocol) (code : Code) (k : KeepsRules code p) (first : Machine) → IsStart code first → {m : Machine} →
+    Reaches p code first m → IsOnWalk p code m
 walks p code k first s starts = start p code k first s
 walks p code k first s (goes {m = m} {next = next} r e) = step p code k m next (walks p code k first s r) e
 
@@ -396,4 +507,8 @@ enough false t d r e = let s = eqb-true d t e in omega arith
 pub safe : (p : Protocol) (code : Code) → KeepsRules code p → IsSafe p code
 safe p code k = λ first m s r.
     let w = walks p code k first s r in
-    record { walk = w; served = enough (is_value (op_at code m.at)) (taken_by p (op_at code m.at)) (length m.stack) (depth_after p (op_at code m.at) (length m.stack)) (served-of p code k m w) }
+    record {
+      walk = w;
+      served = enough (is_value (op_at code m.at)) (taken_by p (op_at code m.at)) (length m.stack)
+          (depth_after p (op_at code m.at) (length m.stack)) (served-of p code k m w);
+    }

@@ -21,4 +21,5 @@ FirstBelow code p bound None = (at : ℕ) (r : Rule) → number_of r < bound →
 FirstBelow code p bound (Some f) =
     Breaks code p f.at f.rule
     × (number_of f.rule < bound)
-    × ((at : ℕ) (r : Rule) → number_of r < bound → Breaks code p at r → (f.at < at) ⊎ ((f.at ≡ at) × (number_of f.rule ≤ number_of r)))
+    × ((at : ℕ) (r : Rule) → number_of r < bound → Breaks code p at r →
+    (f.at < at) ⊎ ((f.at ≡ at) × (number_of f.rule ≤ number_of r)))

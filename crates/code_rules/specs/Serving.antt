@@ -1,5 +1,6 @@
 -- Rests and their suspensions, and the doors of each state.
-use Rattle.std.specs.Prelude.{ℕ, ◌≡◌, ◌-◌, ◌<◌, ◌==◌, nat_le, nat_lt, Bool, true, false, not, ◌&&◌, List, [], ◌∷◌, Option, Some, None, count_by, length, slice_get, slice_index}
+use Rattle.std.specs.Prelude.{ℕ, ◌≡◌, ◌-◌, ◌<◌, ◌==◌, nat_le, nat_lt, Bool, true, false, not, ◌&&◌, List, [], ◌∷◌, Option, Some}
+use Rattle.std.specs.Prelude.{None, count_by, length, slice_get, slice_index}
 use Rattle.std.specs.List.{list_any}
 use Rattle.tw_base.specs.Bits.{all_below}
 use Rattle.teapot_tree.specs.declared.protocol.Protocol.{Protocol}
@@ -28,7 +29,8 @@ is_behind code number None at = false
 abbrev pub is_placed : Code → ℕ → Rest → Bool
 is_placed code number rest =
     (count_by (suspends_to number) code.ops == 1)
-    && (nat_lt 0 rest.at && (suspends_to number (op_at code (rest.at - 1)) && is_behind code rest.door (slice_get code.doors rest.door) (rest.at - 1)))
+    && (nat_lt 0 rest.at && (suspends_to number (op_at code (rest.at - 1)) && is_behind code rest.door
+    (slice_get code.doors rest.door) (rest.at - 1)))
 
 -- how many ops name the rest of each number
 abbrev pub AreCounted : List OpCode → List ℕ → Type 0

@@ -1,5 +1,6 @@
 -- Whether doors and rests fit the ops and the protocol.
-use Rattle.std.specs.Prelude.{ℕ, ◌+◌, ◌/◌, ◌^◌, ◌==◌, nat_le, nat_lt, Bool, true, false, ◌&&◌, ◌||◌, List, [], ◌∷◌, Option, Some, None, length, slice_get}
+use Rattle.std.specs.Prelude.{ℕ, ◌+◌, ◌/◌, ◌^◌, ◌==◌, nat_le, nat_lt, Bool, true, false, ◌&&◌, ◌||◌, List, [], ◌∷◌, Option}
+use Rattle.std.specs.Prelude.{Some, None, length, slice_get}
 use Rattle.std.specs.List.{list_all}
 use Rattle.teapot_tree.specs.declared.protocol.Handler.{Handler}
 use Rattle.teapot_tree.specs.declared.protocol.Protocol.{Protocol}

@@ -5,7 +5,8 @@ ghost use Rattle.teapot_tree.specs.Parts.{loops};
 ghost use Rattle.teapot_meaning.specs.Fits.{names_in};
 ghost use Rattle.teapot_rules.specs.Stmts.{stmt_body};
 ghost use Rattle.code_walks.specs.Parts.{handler_of};
-ghost use Rattle.code_rules.specs.Structure.{begins, has_slots, has_slots_of, is_door_of, is_live_below, is_rest_of, is_structured, rises_from, slot_count};
+ghost use Rattle.code_rules.specs.Structure.{begins, has_slots, has_slots_of, is_door_of, is_live_below, is_rest_of};
+ghost use Rattle.code_rules.specs.Structure.{is_structured, rises_from, slot_count};
 
 use code_walks::handler_of;
 use handler_code::{Code, Door, Rest};

@@ -28,7 +28,8 @@ fn none(alloc: Global, rests: usize) -> Result<Listed<u32>, Memory>
 fn count(counts: &mut Listed<u32>, op: &OpCode)
     requires { (number : ℕ) → slice_index counts.old number + 1 < 2 ^ 32 }
     ensures all { length counts.new ≡ length counts.old }
-    ensures more { (number : ℕ) → number < length counts.old → slice_index counts.new number ≡ slice_index counts.old number + (if suspends_to number op.now then 1 else 0) }
+    ensures more { (number : ℕ) → number < length counts.old →
+        slice_index counts.new number ≡ slice_index counts.old number + (if suspends_to number op.now then 1 else 0) }
 {
     if let OpCode::Suspend(_, rest) = op {
         let number = *rest as usize;

@@ -1,5 +1,5 @@
 -- The text of code.
-use Rattle.std.specs.Prelude.{ℕ, ◌+◌, ◌-◌, ◌==◌, if◌then◌else◌, codes, length, min, Bool, true, false, List, [], ◌∷◌, ◌++◌, Option, Some, None}
+use Rattle.std.specs.Prelude.{ℕ, ◌+◌, ◌==◌, if◌then◌else◌, codes, length, min, Bool, true, false, List, [], ◌∷◌, ◌++◌}
 use Rattle.std.specs.List.{flat_map, enumerate_from, range_with_len, slice_range}
 use Rattle.std.specs.Int.{bit_at}
 use Rattle.std.specs.Fmt.{decimal}
@@ -97,7 +97,8 @@ live_text live = if live == 0 then codes " none" else flat_map (slot_text live) 
 
 abbrev pub rest_line : ℕ → Rest → List ℕ
 rest_line number rest =
-    of (codes "rest") (of (decimal number) (of (codes "at") (of (decimal rest.at) (codes "live" ++ (live_text rest.live ++ 10 ∷ [])))))
+    of (codes "rest")
+    (of (decimal number) (of (codes "at") (of (decimal rest.at) (codes "live" ++ (live_text rest.live ++ 10 ∷ [])))))
 
 -- where it is of the handler of this door
 abbrev pub rest_of : ℕ → ℕ × Rest → List ℕ

@@ -72,7 +72,8 @@ fn add_door(
 }
 
 fn add_doors(out: &mut Text, names: &Names, code: &Code) -> Result<(), Memory>
-    ensures { OnOk result (out.new ≡ out.old ++ flat_map (door_text names.now.protocol.now code.now) (enumerate_from 0 code.now.doors)) }
+    ensures { OnOk result (out.new ≡ out.old ++ flat_map (door_text names.now.protocol.now code.now)
+        (enumerate_from 0 code.now.doors)) }
 {
     let doors = code.doors.items();
     for (number, door) in doors.iter().enumerate() {

@@ -19,13 +19,15 @@ none_more from at P none here = λ k h l x. elim (cases_lt k at) [
   | inr ge ↦ let e : k ≡ at = omega arith in here (subst P e x)
 ]
 
-pub found : (part : Part) (P : ℕ → Type 0) (at : ℕ) → part.door.at ≤ at → at < part.end → NoneBefore part.door.at at P → P at → IsLeast (Within part P) (Some at)
+pub found : (part : Part) (P : ℕ → Type 0) (at : ℕ) → part.door.at ≤ at → at < part.end → NoneBefore part.door.at at P → P at →
+    IsLeast (Within part P) (Some at)
 found part P at from before none x = (
   record { from = from; before = before; holds = x },
   λ k w. elim (cases_lt k at) [ inl lt ↦ absurd (none k w.from lt w.holds) | inr ge ↦ ge ],
 )
 
-pub none_found : (part : Part) (P : ℕ → Type 0) (at : ℕ) → part.end ≤ at → NoneBefore part.door.at at P → IsLeast (Within part P) None
+pub none_found : (part : Part) (P : ℕ → Type 0) (at : ℕ) → part.end ≤ at → NoneBefore part.door.at at P →
+    IsLeast (Within part P) None
 none_found part P at past none = λ k w. none k w.from (let h = w.before in omega arith) w.holds
 
 pub same_least : (P Q : ℕ → Type 0) (o : Option ℕ) → ((k : ℕ) → P k → Q k) → ((k : ℕ) → Q k → P k) → IsLeast P o → IsLeast Q o
@@ -44,9 +46,15 @@ least_of_two P Q None (Some b) h g = (inr g.0, λ k x. elim x [ inl u ↦ absurd
 least_of_two P Q (Some a) None h g = (inl h.0, λ k x. elim x [ inl u ↦ h.1 k u | inr v ↦ absurd (g k v) ])
 least_of_two P Q (Some a) (Some b) h g = (
   lesser_of P Q a b h.0 g.0,
-  λ k x. elim x [ inl u ↦ let m = h.1 k u in let s : min a b ≤ k = omega arith in s | inr v ↦ let m = g.1 k v in let s : min a b ≤ k = omega arith in s ],
+  λ k x. elim x [
+    | inl u ↦ let m = h.1 k u in let s : min a b ≤ k = omega arith in s
+    | inr v ↦ let m = g.1 k v in let s : min a
+        b ≤ k = omega arith in s
+  ],
 )
 
 -- what is so far the least, and one thing more
-pub least_more : (P Q R : ℕ → Type 0) (a b : Option ℕ) → ((k : ℕ) → P k → R k) → ((k : ℕ) → Q k → R k) → ((k : ℕ) → R k → P k ⊎ Q k) → IsLeast P a → IsLeast Q b → IsLeast R (lesser a b)
-least_more P Q R a b f g back h i = same_least (λ k. P k ⊎ Q k) R (lesser a b) (λ k x. elim x [ inl u ↦ f k u | inr v ↦ g k v ]) back (least_of_two P Q a b h i)
+pub least_more : (P Q R : ℕ → Type 0) (a b : Option ℕ) → ((k : ℕ) → P k → R k) → ((k : ℕ) → Q k → R k) →
+    ((k : ℕ) → R k → P k ⊎ Q k) → IsLeast P a → IsLeast Q b → IsLeast R (lesser a b)
+least_more P Q R a b f g back h i = same_least (λ k. P k ⊎ Q k) R (lesser a b)
+    (λ k x. elim x [ inl u ↦ f k u | inr v ↦ g k v ]) back (least_of_two P Q a b h i)

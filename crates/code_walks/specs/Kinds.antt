@@ -1,5 +1,6 @@
 -- The types of the values that are on the stack before each op. What is out of range is a number.
-use Rattle.std.specs.Prelude.{ℕ, zero, suc, ◌+◌, ◌-◌, Bool, true, not, ◌&&◌, if◌then◌else◌, List, [], ◌∷◌, ◌++◌, Option, Some, None, drop, is_some, length, slice_get, unwrap_or}
+use Rattle.std.specs.Prelude.{ℕ, zero, suc, ◌+◌, ◌-◌, Bool, true, not, ◌&&◌, if◌then◌else◌, List, [], ◌∷◌, ◌++◌, Option, Some}
+use Rattle.std.specs.Prelude.{None, drop, is_some, length, slice_get, unwrap_or}
 use Rattle.teapot_tree.specs.declared.expr.Op.{Op}
 use Rattle.teapot_tree.specs.declared.expr.Op.TheVariants.{Add, Sub, Eq, Ne, Lt, Le, And, Or, Has, With, Without}
 use Rattle.teapot_tree.specs.declared.protocol.Handler.{Handler}

@@ -1,6 +1,7 @@
 ghost use Rattle.std.specs.Prelude.{◌≡◌, ◌+◌, ◌<◌, ◌^◌, IfOk};
 ghost use Rattle.std.specs.List.{list_all};
-ghost use Rattle.code_walks.specs.Jumps.{is_back_to, is_done, is_each_to, is_in, is_in_range, is_loop, is_nested, is_not_entered, leads_back, leads_forward, leads_well, loops_of};
+ghost use Rattle.code_walks.specs.Jumps.{is_back_to, is_done, is_each_to, is_in, is_in_range, is_loop, is_nested};
+ghost use Rattle.code_walks.specs.Jumps.{is_not_entered, leads_back, leads_forward, leads_well, loops_of};
 
 use crate::parts::{Part, op_at};
 use handler_code::{Code, OpCode};

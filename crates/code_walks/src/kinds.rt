@@ -2,7 +2,9 @@ ghost use Rattle.std.specs.Prelude.{◌≡◌, [], ◌∷◌, ◌++◌, IfOk, Ma
 ghost use Rattle.teapot_tree.specs.Rules.{params_of};
 ghost use Rattle.teapot_tree.specs.Scopes.{args_of, same_type};
 ghost use Rattle.teapot_meaning.specs.Fits.{type_of, types_in, types_of};
-ghost use Rattle.code_walks.specs.Kinds.{filled_types, gives, has_loop_slots, is_mistyped, is_typed, needs, needs_two, pushed_on, slot_types, top_type, type_at, type_of_two, types_after, with_sets, without};
+ghost use Rattle.code_walks.specs.Kinds.{filled_types, gives, has_loop_slots, is_mistyped, is_typed, needs, needs_two};
+ghost use Rattle.code_walks.specs.Kinds.{pushed_on, slot_types, top_type, type_at, type_of_two, types_after, with_sets};
+ghost use Rattle.code_walks.specs.Kinds.{without};
 ghost use Rattle.code_walks.specs.Least.{IsLeast};
 ghost use Rattle.code_walks.specs.Parts.{Within};
 
@@ -309,7 +311,8 @@ fn after(
     op: &OpCode,
     stack: Stack<ValType>,
 ) -> Result<Option<Stack<ValType>>, Memory>
-    ensures { IfOk result (λ s. MatchOption s (is_typed p.now slots.now op.now stack ≡ false) (λ next. (is_typed p.now slots.now op.now stack ≡ true) × (next ≡ types_after p.now slots.now op.now stack))) }
+    ensures { IfOk result (λ s. MatchOption s (is_typed p.now slots.now op.now stack ≡ false)
+        (λ next. (is_typed p.now slots.now op.now stack ≡ true) × (next ≡ types_after p.now slots.now op.now stack))) }
 {
     let top = top_type(&stack);
     let needed = needs(alloc, p, slots, op, top)?;

@@ -3,7 +3,8 @@ ghost use Rattle.handler_code.specs.Machine.{message_arity, state_arity};
 ghost use Rattle.code_walks.specs.Least.{IsLeast};
 ghost use Rattle.code_walks.specs.Parts.{Within};
 ghost use Rattle.handler_code.specs.Stacks.{taken_by};
-ghost use Rattle.code_walks.specs.Stacks.{BreaksStack, IsLedTo, LeadsInside, depth_after, is_inside, is_served, is_unserved, is_value, target};
+ghost use Rattle.code_walks.specs.Stacks.{BreaksStack, IsLedTo, LeadsInside, depth_after, is_inside, is_served, is_unserved};
+ghost use Rattle.code_walks.specs.Stacks.{is_value, target};
 
 use crate::parts::{Part, op_at};
 use handler_code::{Code, OpCode};

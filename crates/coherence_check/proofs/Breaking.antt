@@ -12,7 +12,8 @@ use Rattle.coherence_check.specs.Under.{InPartsUnder, IsCoherentUnder, PartUnder
 use Rattle.coherence_check.specs.declared.decide.Broken.{Broken}
 
 pub broken_of_stache : (s : Setup) (g : World) (x : Broken) → IsBrokenUnder Stache s g x → IsBroken s g x
-broken_of_stache s g x h = (h.0, h.1, record { within = h.2.within; breaks = h.2.breaks; before = h.2.before; blocks = h.2.blocks })
+broken_of_stache s g x h =
+    (h.0, h.1, record { within = h.2.within; breaks = h.2.breaks; before = h.2.before; blocks = h.2.blocks })
 
 rank_d : (k : Which) → parts_d.rank (which_d k) ≡ rank k
 rank_d First = refl
@@ -32,7 +33,8 @@ all_d s g b h parts_d.Fifth = h Fifth
 all_d s g b h parts_d.Sixth = h Sixth
 all_d s g b h parts_d.Seventh = h Seventh
 
-before_d : (s : Setup) (g : World) (b n : ℕ) → ((j : Which) → rank j < n → PartUnder StacheD s g b j) → (j : parts_d.Which) → parts_d.rank j < n → parts_d.Part s g b j
+before_d : (s : Setup) (g : World) (b n : ℕ) → ((j : Which) → rank j < n → PartUnder StacheD s g b j) → (j : parts_d.Which) →
+    parts_d.rank j < n → parts_d.Part s g b j
 before_d s g b n h parts_d.First lt = h First lt
 before_d s g b n h parts_d.Second lt = h Second lt
 before_d s g b n h parts_d.Third lt = h Third lt
@@ -44,7 +46,9 @@ before_d s g b n h parts_d.Seventh lt = h Seventh lt
 pub coherent_of_d : (s : Setup) (g : World) → IsCoherentUnder StacheD s g → parts_d.IsCoherent s g
 coherent_of_d s g h b lt = all_d s g b (h b lt)
 
-broken_first : (s : Setup) (g : World) (b : ℕ) (k : Which) → (within : b < s.shape.blocks) → ¬ PartUnder StacheD s g b k → ((j : Which) → rank j < rank k → PartUnder StacheD s g b j) → ((c : ℕ) → c < b → InPartsUnder StacheD s g c) → parts_d.IsFirstBreach s g b (which_d k)
+broken_first : (s : Setup) (g : World) (b : ℕ) (k : Which) → (within : b < s.shape.blocks) → ¬ PartUnder StacheD s g b k →
+    ((j : Which) → rank j < rank k → PartUnder StacheD s g b j) → ((c : ℕ) → c < b → InPartsUnder StacheD s g c) →
+    parts_d.IsFirstBreach s g b (which_d k)
 broken_first s g b k within breaks before blocks = record {
   within = within;
   breaks = breaks;

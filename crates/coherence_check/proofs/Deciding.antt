@@ -17,7 +17,8 @@ pub not_so : (a : Bool) (P : Type 0) → Decides a P → Decides (not a) (P → 
 not_so true P h = (λ e. absurd cc, λ f. absurd (f (h.0 refl)))
 not_so false P h = (λ e p. let k = h.1 p in absurd cc, λ f. refl)
 
-pub waits_so : (a m x r : Bool) (P M X : Type 0) → Decides a P → Decides m M → Decides x X → r ≡ not a || (m && x) → Decides r (P → M × X)
+pub waits_so : (a m x r : Bool) (P M X : Type 0) → Decides a P → Decides m M → Decides x X → r ≡ not a || (m && x) →
+    Decides r (P → M × X)
 waits_so a m x r P M X h k l e = implies_so a (m && x) r P (M × X) h (both_so m x (m && x) M X k l refl) e
 
 pub on_both : (P : Chan → Type 0) → P Zero → P One → (k : Chan) → P k

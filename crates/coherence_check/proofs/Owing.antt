@@ -17,11 +17,13 @@ joined f (x ∷ xs) ys = omega (arith, joined f xs ys)
 here : (ms : List Message) (k : ℕ) (m : Message) → slice_get ms k ≡ Some m → take (k + 1) ms ≡ take k ms ++ m ∷ []
 here ms k m g = take_more ms k m (slice_get_within ms k m g) ∙ ap (λ z. take k ms ++ z ∷ []) (get_or_from_slice_get ms k m m g)
 
-apart : (b k : ℕ) (ms : List Message) (m : Message) → slice_get ms k ≡ Some m → said_to b (k + 1) ms ≡ said_to b k ms ++ notes b (seen_message m ∷ [])
+apart : (b k : ℕ) (ms : List Message) (m : Message) → slice_get ms k ≡ Some m →
+    said_to b (k + 1) ms ≡ said_to b k ms ++ notes b (seen_message m ∷ [])
 unfolding notes
 apart b k ms m g = rw (here ms k m g) (simp (map-append, filter-append))
 
-pub owed_more : (f : Note → ℕ) (b k : ℕ) (ms : List Message) (m : Message) → slice_get ms k ≡ Some m → how_many f (said_to b (k + 1) ms) ≡ how_many f (said_to b k ms) + how_many f (notes b (seen_message m ∷ []))
+pub owed_more : (f : Note → ℕ) (b k : ℕ) (ms : List Message) (m : Message) → slice_get ms k ≡ Some m →
+    how_many f (said_to b (k + 1) ms) ≡ how_many f (said_to b k ms) + how_many f (notes b (seen_message m ∷ []))
 owed_more f b k ms m g = ap (how_many f) (apart b k ms m g) ∙ joined f (said_to b k ms) (notes b (seen_message m ∷ []))
 
 pub owed_none : (f : Note → ℕ) (b : ℕ) (m : Seen) → of_block b m ≡ false → how_many f (notes b (m ∷ [])) ≡ 0

@@ -10,7 +10,8 @@ use Rattle.dsm_runs.specs.Worlds.{World}
 use Rattle.block_spots.specs.Cases.{CacheWaitRo, CacheWaitRw}
 use Rattle.block_spots.specs.Notes.{held_home, kept_notes, notes, owes}
 use Rattle.block_spots.specs.Sketches.{Layout, Loads, Local, Stores, spot_at}
-use Rattle.coherence_inv.specs.Coherent.{AllEligible, Infos, IsHomeState, IsSettled, IsWaiting, allows_load, allows_store, own_rd, own_wr, tag_of}
+use Rattle.coherence_inv.specs.Coherent.{AllEligible, Infos, IsHomeState, IsSettled, IsWaiting, allows_load, allows_store}
+use Rattle.coherence_inv.specs.Coherent.{own_rd, own_wr, tag_of}
 use Rattle.coherence_inv.specs.Parts.{EachCache, First, Second, Third, Fourth, Fifth, Sixth, Seventh, seen, spots_seen}
 use Rattle.block_reads.specs.Tables.{IsProtocol}
 use Rattle.coherence_reads.specs.Directories.{HeldUnder, RestFitsUnder}
@@ -23,7 +24,11 @@ use Rattle.coherence_check.specs.Under.{AtNodeUnder, PartUnder, home_under, spot
 use Rattle.coherence_check.proofs.Deciding.{on_both}
 
 pub first : (d : Directory) (s : Setup) (g : World) (b : ℕ) (r : Bool) →
-    Decides r (IsProtocol d s.protocol × ((IsHomeState (home_under d s g b).state × ((home_under d s g b).tag ≡ tag_of (home_under d s g b).state)) × (((i : ℕ) → i < s.shape.nodes → NodeAt d First s g b i) × EachCache s.shape.nodes (home_of s b) (CacheAt d First s g b)))) →
+    Decides r
+    (IsProtocol d s.protocol
+    × ((IsHomeState (home_under d s g b).state × ((home_under d s g b).tag ≡ tag_of (home_under d s g b).state))
+    × (((i : ℕ) → i < s.shape.nodes → NodeAt d First s g b i)
+    × EachCache s.shape.nodes (home_of s b) (CacheAt d First s g b)))) →
     Decides r (PartUnder d s g b First)
 first Stache s g b r h = (
   λ y. let p = h.0 y in record {
@@ -47,7 +52,9 @@ first StacheD s g b r h = (
 )
 
 pub second : (d : Directory) (s : Setup) (g : World) (b : ℕ) (r : Bool) →
-    Decides r (RestFitsUnder d s.shape.nodes (home_of s b) (home_under d s g b).state (home_under d s g b).rest × (((i : ℕ) → i < s.shape.nodes → NodeAt d Second s g b i) × EachCache s.shape.nodes (home_of s b) (CacheAt d Second s g b))) →
+    Decides r (RestFitsUnder d s.shape.nodes (home_of s b) (home_under d s g b).state (home_under d s g b).rest
+    × (((i : ℕ) → i < s.shape.nodes → NodeAt d Second s g b i)
+    × EachCache s.shape.nodes (home_of s b) (CacheAt d Second s g b))) →
     Decides r (PartUnder d s g b Second)
 second Stache s g b r h = (
   λ y. let p = h.0 y in record { placed = p.1.0; of_home = p.0; of_caches = p.1.1 },
@@ -59,7 +66,9 @@ second StacheD s g b r h = (
 )
 
 pub third : (d : Directory) (s : Setup) (g : World) (b : ℕ) (r : Bool) →
-    Decides r (((j : ℕ) → s.shape.nodes ≤ j → kept_notes b j ((seen s g).locals (home_of s b)).deferred ≡ []) × (OwnPlaces (spots_under d s g b (home_of s b)) × (((i : ℕ) → i < s.shape.nodes → NodeAt d Third s g b i) × EachCache s.shape.nodes (home_of s b) (CacheAt d Third s g b)))) →
+    Decides r (((j : ℕ) → s.shape.nodes ≤ j → kept_notes b j ((seen s g).locals (home_of s b)).deferred ≡ [])
+    × (OwnPlaces (spots_under d s g b (home_of s b)) × (((i : ℕ) → i < s.shape.nodes → NodeAt d Third s g b i)
+    × EachCache s.shape.nodes (home_of s b) (CacheAt d Third s g b)))) →
     Decides r (PartUnder d s g b Third)
 third Stache s g b r h = (
   λ y.
@@ -67,7 +76,8 @@ third Stache s g b r h = (
       let others = p.1.1.0 in (
         record { caches = p.1.1.1; own = p.1.0 },
         record {
-          between = λ f t k lf lt df dt. on_both (λ (z : Chan). notes b ((seen s g).wires f t z) ≡ []) ((others f lf df).0 t lt dt).0 ((others f lf df).0 t lt dt).1 k;
+          between = λ f t k lf lt df dt. on_both (λ (z : Chan). notes b ((seen s g).wires f t z) ≡ [])
+              ((others f lf df).0 t lt dt).0 ((others f lf df).0 t lt dt).1 k;
           from_home = λ t lt dt. (others t lt dt).1;
           deferred = λ k j lk dk. (others k lk dk).2 j;
           strangers = p.0;
@@ -78,7 +88,11 @@ third Stache s g b r h = (
     (
       a.0.own,
       (
-        λ f lf df. (λ t lt dt. (a.1.between f t Zero lf lt df dt, a.1.between f t One lf lt df dt), a.1.from_home f lf df, λ j. a.1.deferred f j lf df),
+        λ f lf df. (
+          λ t lt dt. (a.1.between f t Zero lf lt df dt, a.1.between f t One lf lt df dt),
+          a.1.from_home f lf df,
+          λ j. a.1.deferred f j lf df,
+        ),
         a.0.caches,
       ),
     ),
@@ -90,7 +104,8 @@ third StacheD s g b r h = (
       let others = p.1.1.0 in (
         record { caches = p.1.1.1; own = p.1.0 },
         record {
-          between = λ f t k lf lt df dt. on_both (λ (z : Chan). notes b ((seen s g).wires f t z) ≡ []) ((others f lf df).0 t lt dt).0 ((others f lf df).0 t lt dt).1 k;
+          between = λ f t k lf lt df dt. on_both (λ (z : Chan). notes b ((seen s g).wires f t z) ≡ [])
+              ((others f lf df).0 t lt dt).0 ((others f lf df).0 t lt dt).1 k;
           from_home = λ t lt dt. (others t lt dt).1;
           deferred = λ k j lk dk. (others k lk dk).2 j;
           strangers = p.0;
@@ -101,7 +116,11 @@ third StacheD s g b r h = (
     (
       a.0.own,
       (
-        λ f lf df. (λ t lt dt. (a.1.between f t Zero lf lt df dt, a.1.between f t One lf lt df dt), a.1.from_home f lf df, λ j. a.1.deferred f j lf df),
+        λ f lf df. (
+          λ t lt dt. (a.1.between f t Zero lf lt df dt, a.1.between f t One lf lt df dt),
+          a.1.from_home f lf df,
+          λ j. a.1.deferred f j lf df,
+        ),
         a.0.caches,
       ),
     ),
@@ -109,7 +128,9 @@ third StacheD s g b r h = (
 )
 
 pub fourth : (d : Directory) (s : Setup) (g : World) (b : ℕ) (r : Bool) →
-    Decides r (OwnRequests (home_under d s g b) (spots_under d s g b (home_of s b)) × (((i : ℕ) → i < s.shape.nodes → NodeAt d Fourth s g b i) × EachCache s.shape.nodes (home_of s b) (CacheAt d Fourth s g b))) →
+    Decides r (OwnRequests (home_under d s g b) (spots_under d s g b (home_of s b))
+    × (((i : ℕ) → i < s.shape.nodes → NodeAt d Fourth s g b i)
+    × EachCache s.shape.nodes (home_of s b) (CacheAt d Fourth s g b))) →
     Decides r (PartUnder d s g b Fourth)
 fourth Stache s g b r h = (
   λ y. let p = h.0 y in (record { caches = p.1.1; own = p.0.0; none = p.0.1 }, p.1.0),
@@ -121,7 +142,8 @@ fourth StacheD s g b r h = (
 )
 
 pub fifth : (d : Directory) (s : Setup) (g : World) (b : ℕ) (r : Bool) →
-    Decides r (Infos s.shape.nodes (home_of s b) (home_under d s g b).state (home_under d s g b) × (AcksFit d s g b × EachCache s.shape.nodes (home_of s b) (CacheAt d Fifth s g b))) →
+    Decides r (Infos s.shape.nodes (home_of s b) (home_under d s g b).state (home_under d s g b)
+    × (AcksFit d s g b × EachCache s.shape.nodes (home_of s b) (CacheAt d Fifth s g b))) →
     Decides r (PartUnder d s g b Fifth)
 fifth Stache s g b r h = (
   λ y. let p = h.0 y in record { infos = p.0; caches = p.1.1; acks = p.1.0 },
@@ -160,12 +182,14 @@ Waits d s l i b =
     × ((i ≢ s.home b → l.mode ≡ mode.Blocked b → IsWaiting (l.blocks b).state)
     × ((i ≡ s.home b → 1 ≤ own_rd l i b → (l.mode ≡ mode.Blocked b) × (l.next ≡ Loads b))
     × ((i ≡ s.home b → 1 ≤ own_wr l i b → (l.mode ≡ mode.Blocked b) × (l.next ≡ Stores b))
-    × ((i ≡ s.home b → 1 ≤ held_home (l.blocks b).rest → (l.mode ≡ mode.Blocked b) × HeldUnder d (l.blocks b).state (l.blocks b).rest l.next b)
+    × ((i ≡ s.home b → 1 ≤ held_home (l.blocks b).rest → (l.mode ≡ mode.Blocked b)
+    × HeldUnder d (l.blocks b).state (l.blocks b).rest l.next b)
     × ((i ≡ s.home b → l.mode ≡ mode.Blocked b → own_rd l i b + own_wr l i b + held_home (l.blocks b).rest ≡ 1)
     × ((l.mode ≡ mode.Woken → l.may ≡ true → l.next ≡ Loads b → allows_load (l.blocks b).tag)
     × (l.mode ≡ mode.Woken → l.may ≡ true → l.next ≡ Stores b → allows_store (l.blocks b).tag))))))))
 
-pub at_node : (d : Directory) (s : Layout) (l : Local) (i b : ℕ) (r : Bool) → Decides r (Waits d s l i b) → Decides r (AtNodeUnder d s l i b)
+pub at_node : (d : Directory) (s : Layout) (l : Local) (i b : ℕ) (r : Bool) → Decides r (Waits d s l i b) →
+    Decides r (AtNodeUnder d s l i b)
 at_node Stache s l i b r h = (
   λ y. let p = h.0 y in record {
     waits_ro = p.0;
@@ -197,7 +221,8 @@ at_node StacheD s l i b r h = (
 
 -- ---- what is owed is seen alike under each protocol
 
-pub owed_alike : (d : Directory) (s : Setup) (g : World) (b n : ℕ) → sum_below n (λ j. owes (spots_under d s g b j)) ≡ sum_below n (λ j. owes (spots_seen s g b j))
+pub owed_alike : (d : Directory) (s : Setup) (g : World) (b n : ℕ) →
+    sum_below n (λ j. owes (spots_under d s g b j)) ≡ sum_below n (λ j. owes (spots_seen s g b j))
 unfolding spot_at
 owed_alike d s g b n = refl
 

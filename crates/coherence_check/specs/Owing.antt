@@ -14,4 +14,5 @@ owing true = is_inv
 owing false = is_ack
 
 abbrev pub AcksFit : Directory → Setup → World → ℕ → Type 0
-AcksFit d s g b = (home_under d s g b).state ≡ HomeAcks → (home_under d s g b).acks ≡ sum_below s.shape.nodes (λ j. owes (spots_under d s g b j))
+AcksFit d s g b = (home_under d s g b).state ≡ HomeAcks → (home_under d s g b).acks
+    ≡ sum_below s.shape.nodes (λ j. owes (spots_under d s g b j))

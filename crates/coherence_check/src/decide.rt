@@ -26,7 +26,8 @@ pub struct Broken {
 fn first_broken(g: &Global, directory: Directory, is_it: bool, block: BlockId) -> Option<Part>
     requires block { block < (setup_of g.now).shape.blocks }
     requires protocol { Decides is_it (IsProtocol directory (setup_of g.now).protocol) }
-    ensures { MatchOption result (InPartsUnder directory (setup_of g.now) (world_of g.now) block) (λ p. Firstly (PartUnder directory (setup_of g.now) (world_of g.now) block) (which p)) }
+    ensures { MatchOption result (InPartsUnder directory (setup_of g.now) (world_of g.now) block)
+        (λ p. Firstly (PartUnder directory (setup_of g.now) (world_of g.now) block) (which p)) }
 {
     if !part_holds(g, directory, is_it, block, Part::First) {
         return Some(Part::First);
@@ -54,7 +55,8 @@ fn first_broken(g: &Global, directory: Directory, is_it: bool, block: BlockId) -
 
 fn decide(g: &Global, directory: Directory, is_it: bool) -> Result<(), Broken>
     requires { Decides is_it (IsProtocol directory (setup_of g.now).protocol) }
-    ensures { MatchResult result (λ _. IsCoherentUnder directory (setup_of g.now) (world_of g.now)) (λ b. IsBrokenUnder directory (setup_of g.now) (world_of g.now) b) }
+    ensures { MatchResult result (λ _. IsCoherentUnder directory (setup_of g.now) (world_of g.now))
+        (λ b. IsBrokenUnder directory (setup_of g.now) (world_of g.now) b) }
 {
     for number in 0..blocks(g) {
         let block = BlockId::new(number).unwrap();

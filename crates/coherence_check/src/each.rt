@@ -27,7 +27,8 @@ fn cache_at(g: &Global, directory: Directory, part: Part, block: BlockId, node: 
 fn cache_or_home(g: &Global, directory: Directory, part: Part, block: BlockId, node: NodeId) -> bool
     requires node { node < (setup_of g.now).shape.nodes }
     requires block { block < (setup_of g.now).shape.blocks }
-    ensures { Decides result (node ≢ home_of (setup_of g.now) block → CacheAt directory (which part) (setup_of g.now) (world_of g.now) block node) }
+    ensures { Decides result (node ≢ home_of (setup_of g.now) block →
+        CacheAt directory (which part) (setup_of g.now) (world_of g.now) block node) }
 {
     if node == home(g, block) {
         return true;
@@ -38,7 +39,8 @@ fn cache_or_home(g: &Global, directory: Directory, part: Part, block: BlockId, n
 /// Whether each cache is as the part asks.
 pub fn caches_fit(g: &Global, directory: Directory, part: Part, block: BlockId) -> bool
     requires { block < (setup_of g.now).shape.blocks }
-    ensures { Decides result (EachCache (setup_of g.now).shape.nodes (home_of (setup_of g.now) block) (CacheAt directory (which part) (setup_of g.now) (world_of g.now) block)) }
+    ensures { Decides result (EachCache (setup_of g.now).shape.nodes (home_of (setup_of g.now) block)
+        (CacheAt directory (which part) (setup_of g.now) (world_of g.now) block)) }
 {
     for number in 0..nodes(g) {
         let node = NodeId::new(number).unwrap();

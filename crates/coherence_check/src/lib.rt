@@ -1,5 +1,5 @@
-//! Whether a state of the machine is coherent under Stache or Stache_D, and else the first part of the least block that fails. What names no protocol stands
-//! once, over a `Directory`.
+//! Whether a state of the machine is coherent under Stache or Stache_D, and else the first part of the least block that fails.
+//! What names no protocol stands once, over a `Directory`.
 #![tactic(auto)]
 
 mod decide;

@@ -95,7 +95,8 @@ fn sends_none(g: &Global, block: BlockId, from: NodeId, to: NodeId) -> bool
 fn sends_none_but_home(g: &Global, block: BlockId, from: NodeId) -> bool
     requires from { from < (setup_of g.now).shape.nodes }
     requires block { block < (setup_of g.now).shape.blocks }
-    ensures { Decides result (EachCache (setup_of g.now).shape.nodes (home_of (setup_of g.now) block) (SendsNone (setup_of g.now) (world_of g.now) block from)) }
+    ensures { Decides result (EachCache (setup_of g.now).shape.nodes (home_of (setup_of g.now) block)
+        (SendsNone (setup_of g.now) (world_of g.now) block from)) }
 {
     for number in 0..nodes(g) {
         let node = NodeId::new(number).unwrap();
@@ -108,7 +109,8 @@ fn sends_none_but_home(g: &Global, block: BlockId, from: NodeId) -> bool
 
 fn is_home_silent(g: &Global, block: BlockId, node: NodeId) -> bool
     requires { block < (setup_of g.now).shape.blocks }
-    ensures { Decides result (notes block ((seen (setup_of g.now) (world_of g.now)).wires (home_of (setup_of g.now) block) node Zero) ≡ []) }
+    ensures { Decides result
+        (notes block ((seen (setup_of g.now) (world_of g.now)).wires (home_of (setup_of g.now) block) node Zero) ≡ []) }
 {
     is_silent(g, block, home(g, block), node, Chan::Zero)
 }
@@ -218,7 +220,8 @@ fn stores(setup: &Setup, next: Next, block: BlockId) -> bool
 fn node_seen(g: &Global, directory: Directory, block: BlockId, node: NodeId) -> Node
     requires node { node < (setup_of g.now).shape.nodes }
     requires block { block < (setup_of g.now).shape.blocks }
-    ensures { IsNode result (home_of (setup_of g.now) block) ((seen_under directory (setup_of g.now) (world_of g.now)).locals node) node block }
+    ensures { IsNode result (home_of (setup_of g.now) block)
+        ((seen_under directory (setup_of g.now) (world_of g.now)).locals node) node block }
 {
     let here = g.block(node, block);
     let kept = kept_of(deferred(g, node), block, node, words(g), here.words);
@@ -240,7 +243,8 @@ fn node_seen(g: &Global, directory: Directory, block: BlockId, node: NodeId) -> 
 fn waits_so(g: &Global, directory: Directory, block: BlockId, node: NodeId) -> bool
     requires node { node < (setup_of g.now).shape.nodes }
     requires block { block < (setup_of g.now).shape.blocks }
-    ensures { Decides result (AtNodeUnder directory (layout (setup_of g.now)) ((seen_under directory (setup_of g.now) (world_of g.now)).locals node) node block) }
+    ensures { Decides result (AtNodeUnder directory (layout (setup_of g.now))
+        ((seen_under directory (setup_of g.now) (world_of g.now)).locals node) node block) }
 {
     let x = node_seen(g, directory, block, node);
     node_fits(directory, &x)
@@ -263,7 +267,8 @@ fn node_at(g: &Global, directory: Directory, part: Part, block: BlockId, node: N
 /// Whether each node is as the part asks.
 pub fn nodes_fit(g: &Global, directory: Directory, part: Part, block: BlockId) -> bool
     requires { block < (setup_of g.now).shape.blocks }
-    ensures { Decides result ((i : ℕ) → i < (setup_of g.now).shape.nodes → NodeAt directory (which part) (setup_of g.now) (world_of g.now) block i) }
+    ensures { Decides result ((i : ℕ) → i < (setup_of g.now).shape.nodes →
+        NodeAt directory (which part) (setup_of g.now) (world_of g.now) block i) }
 {
     for number in 0..nodes(g) {
         let node = NodeId::new(number).unwrap();

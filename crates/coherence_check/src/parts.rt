@@ -33,7 +33,9 @@ fn has_tag(x: &Home) -> bool
 
 fn home_has_tag(g: &Global, directory: Directory, block: BlockId) -> bool
     requires { block < (setup_of g.now).shape.blocks }
-    ensures { Decides result (IsHomeState (home_under directory (setup_of g.now) (world_of g.now) block).state × ((home_under directory (setup_of g.now) (world_of g.now) block).tag ≡ tag_of (home_under directory (setup_of g.now) (world_of g.now) block).state)) }
+    ensures { Decides result (IsHomeState (home_under directory (setup_of g.now) (world_of g.now) block).state
+        × ((home_under directory (setup_of g.now) (world_of g.now) block).tag
+        ≡ tag_of (home_under directory (setup_of g.now) (world_of g.now) block).state)) }
 {
     has_tag(&home_at(g, directory, block))
 }
@@ -54,7 +56,9 @@ fn states_and_tags(g: &Global, directory: Directory, is_it: bool, block: BlockId
 
 fn home_has_rest(g: &Global, directory: Directory, block: BlockId) -> bool
     requires { block < (setup_of g.now).shape.blocks }
-    ensures { Decides result (RestFitsUnder directory (setup_of g.now).shape.nodes (home_of (setup_of g.now) block) (home_under directory (setup_of g.now) (world_of g.now) block).state (home_under directory (setup_of g.now) (world_of g.now) block).rest) }
+    ensures { Decides result (RestFitsUnder directory (setup_of g.now).shape.nodes (home_of (setup_of g.now) block)
+        (home_under directory (setup_of g.now) (world_of g.now) block).state
+        (home_under directory (setup_of g.now) (world_of g.now) block).rest) }
 {
     let own = home_at(g, directory, block);
     rest_fits(directory, nodes(g), home(g, block), own.place, own.whose)
@@ -71,7 +75,8 @@ fn continuations(g: &Global, directory: Directory, block: BlockId) -> bool
 
 fn home_has_its_places(g: &Global, directory: Directory, block: BlockId) -> bool
     requires { block < (setup_of g.now).shape.blocks }
-    ensures { Decides result (OwnPlaces (spots_under directory (setup_of g.now) (world_of g.now) block (home_of (setup_of g.now) block))) }
+    ensures { Decides result
+        (OwnPlaces (spots_under directory (setup_of g.now) (world_of g.now) block (home_of (setup_of g.now) block))) }
 {
     let own = home_at(g, directory, block);
     own_places(&spot_at(g, directory, block, home(g, block), own.words))
@@ -79,7 +84,8 @@ fn home_has_its_places(g: &Global, directory: Directory, block: BlockId) -> bool
 
 /// Whether the home defers nothing from a node that there is not.
 fn has_no_strangers(g: &Global, block: BlockId) -> bool
-    ensures { Decides result ((j : ℕ) → (setup_of g.now).shape.nodes ≤ j → kept_notes block j ((seen (setup_of g.now) (world_of g.now)).locals (home_of (setup_of g.now) block)).deferred ≡ []) }
+    ensures { Decides result ((j : ℕ) → (setup_of g.now).shape.nodes ≤ j →
+        kept_notes block j ((seen (setup_of g.now) (world_of g.now)).locals (home_of (setup_of g.now) block)).deferred ≡ []) }
 {
     are_none_from(deferred(g, home(g, block)), block, nodes(g))
 }
@@ -96,7 +102,8 @@ fn places(g: &Global, directory: Directory, block: BlockId) -> bool
 
 fn home_has_its_requests(g: &Global, directory: Directory, block: BlockId) -> bool
     requires { block < (setup_of g.now).shape.blocks }
-    ensures { Decides result (OwnRequests (home_under directory (setup_of g.now) (world_of g.now) block) (spots_under directory (setup_of g.now) (world_of g.now) block (home_of (setup_of g.now) block))) }
+    ensures { Decides result (OwnRequests (home_under directory (setup_of g.now) (world_of g.now) block)
+        (spots_under directory (setup_of g.now) (world_of g.now) block (home_of (setup_of g.now) block))) }
 {
     let own = home_at(g, directory, block);
     own_requests(
@@ -119,7 +126,9 @@ fn requests(g: &Global, directory: Directory, block: BlockId) -> bool
 
 fn home_has_infos(g: &Global, directory: Directory, block: BlockId) -> bool
     requires { block < (setup_of g.now).shape.blocks }
-    ensures { Decides result (Infos (setup_of g.now).shape.nodes (home_of (setup_of g.now) block) (home_under directory (setup_of g.now) (world_of g.now) block).state (home_under directory (setup_of g.now) (world_of g.now) block)) }
+    ensures { Decides result (Infos (setup_of g.now).shape.nodes (home_of (setup_of g.now) block)
+        (home_under directory (setup_of g.now) (world_of g.now) block).state
+        (home_under directory (setup_of g.now) (world_of g.now) block)) }
 {
     infos_fit(&home_at(g, directory, block), nodes(g), home(g, block))
 }

@@ -28,7 +28,8 @@ pub fn spot_at(
 ) -> Spot
     requires node { node < (setup_of g.now).shape.nodes }
     requires block { block < (setup_of g.now).shape.blocks }
-    ensures { IsSpot (setup_of g.now).shape.words at_home result (spots_under directory (setup_of g.now) (world_of g.now) block node) }
+    ensures { IsSpot (setup_of g.now).shape.words at_home result
+        (spots_under directory (setup_of g.now) (world_of g.now) block node) }
 {
     let to = home(g, block);
     let here = g.block(node, block);

@@ -68,7 +68,8 @@ fn is_some(count: Count) -> bool
 }
 
 fn held_for_of_stache(place: Place, loads: bool, stores: bool) -> bool
-    ensures { (l : Local) (b : ℕ) → Decides loads (l.next ≡ Loads b) → Decides stores (l.next ≡ Stores b) → Decides result (HeldFor (state_in place) l.next b) }
+    ensures { (l : Local) (b : ℕ) → Decides loads (l.next ≡ Loads b) → Decides stores (l.next ≡ Stores b) →
+        Decides result (HeldFor (state_in place) l.next b) }
 {
     match place {
         Place::HomePut => loads || stores,
@@ -77,7 +78,8 @@ fn held_for_of_stache(place: Place, loads: bool, stores: bool) -> bool
 }
 
 fn held_for_of_d(whose: Whose, loads: bool, stores: bool) -> bool
-    ensures { (l : Local) (b : ℕ) → Decides loads (l.next ≡ Loads b) → Decides stores (l.next ≡ Stores b) → Decides result (words_d.HeldFor (rest_in whose) l.next b) }
+    ensures { (l : Local) (b : ℕ) → Decides loads (l.next ≡ Loads b) → Decides stores (l.next ≡ Stores b) →
+        Decides result (words_d.HeldFor (rest_in whose) l.next b) }
 {
     match whose {
         Whose::OfLoad => loads,
@@ -87,7 +89,8 @@ fn held_for_of_d(whose: Whose, loads: bool, stores: bool) -> bool
 
 /// Whether the home's next instruction is that whose fault it serves.
 fn held_for(directory: Directory, x: &Node) -> bool
-    ensures { (l : Local) (b : ℕ) → Decides x.now.loads (l.next ≡ Loads b) → Decides x.now.stores (l.next ≡ Stores b) → Decides result (HeldUnder directory (state_in x.now.place) (rest_in x.now.whose) l.next b) }
+    ensures { (l : Local) (b : ℕ) → Decides x.now.loads (l.next ≡ Loads b) → Decides x.now.stores (l.next ≡ Stores b) →
+        Decides result (HeldUnder directory (state_in x.now.place) (rest_in x.now.whose) l.next b) }
 {
     match directory {
         Directory::Stache => held_for_of_stache(x.place, x.loads, x.stores),
@@ -115,37 +118,44 @@ fn waits(x: &Node, so: bool, next: bool) -> bool
 }
 
 fn waits_ro(x: &Node) -> bool
-    ensures { (h i b : ℕ) (l : Local) → IsNode x.now h l i b → Decides result (i ≢ h → (l.blocks b).state ≡ CacheWaitRo → (l.mode ≡ mode.Blocked b) × (l.next ≡ Loads b)) }
+    ensures { (h i b : ℕ) (l : Local) → IsNode x.now h l i b →
+        Decides result (i ≢ h → (l.blocks b).state ≡ CacheWaitRo → (l.mode ≡ mode.Blocked b) × (l.next ≡ Loads b)) }
 {
     implies(!x.own, waits(x, is_wait_ro(x.place), x.loads))
 }
 
 fn waits_rw(x: &Node) -> bool
-    ensures { (h i b : ℕ) (l : Local) → IsNode x.now h l i b → Decides result (i ≢ h → (l.blocks b).state ≡ CacheWaitRw → (l.mode ≡ mode.Blocked b) × (l.next ≡ Stores b)) }
+    ensures { (h i b : ℕ) (l : Local) → IsNode x.now h l i b →
+        Decides result (i ≢ h → (l.blocks b).state ≡ CacheWaitRw → (l.mode ≡ mode.Blocked b) × (l.next ≡ Stores b)) }
 {
     implies(!x.own, waits(x, is_wait_rw(x.place), x.stores))
 }
 
 fn blocked_waits(x: &Node) -> bool
-    ensures { (h i b : ℕ) (l : Local) → IsNode x.now h l i b → Decides result (i ≢ h → l.mode ≡ mode.Blocked b → IsWaiting (l.blocks b).state) }
+    ensures { (h i b : ℕ) (l : Local) → IsNode x.now h l i b →
+        Decides result (i ≢ h → l.mode ≡ mode.Blocked b → IsWaiting (l.blocks b).state) }
 {
     implies(!x.own, implies(x.blocked, is_waiting(x.place)))
 }
 
 fn own_read(x: &Node) -> bool
-    ensures { (h i b : ℕ) (l : Local) → IsNode x.now h l i b → Decides result (i ≡ h → 1 ≤ own_rd l i b → (l.mode ≡ mode.Blocked b) × (l.next ≡ Loads b)) }
+    ensures { (h i b : ℕ) (l : Local) → IsNode x.now h l i b →
+        Decides result (i ≡ h → 1 ≤ own_rd l i b → (l.mode ≡ mode.Blocked b) × (l.next ≡ Loads b)) }
 {
     implies(x.own, waits(x, is_some(x.rd_fault), x.loads))
 }
 
 fn own_write(x: &Node) -> bool
-    ensures { (h i b : ℕ) (l : Local) → IsNode x.now h l i b → Decides result (i ≡ h → 1 ≤ own_wr l i b → (l.mode ≡ mode.Blocked b) × (l.next ≡ Stores b)) }
+    ensures { (h i b : ℕ) (l : Local) → IsNode x.now h l i b →
+        Decides result (i ≡ h → 1 ≤ own_wr l i b → (l.mode ≡ mode.Blocked b) × (l.next ≡ Stores b)) }
 {
     implies(x.own, waits(x, is_some(x.wr_fault), x.stores))
 }
 
 fn own_held(directory: Directory, x: &Node) -> bool
-    ensures { (h i b : ℕ) (l : Local) → IsNode x.now h l i b → Decides result (i ≡ h → 1 ≤ held_home (l.blocks b).rest → (l.mode ≡ mode.Blocked b) × HeldUnder directory (l.blocks b).state (l.blocks b).rest l.next b) }
+    ensures { (h i b : ℕ) (l : Local) → IsNode x.now h l i b →
+        Decides result (i ≡ h → 1 ≤ held_home (l.blocks b).rest →
+        (l.mode ≡ mode.Blocked b) × HeldUnder directory (l.blocks b).state (l.blocks b).rest l.next b) }
 {
     implies(
         x.own,
@@ -154,7 +164,8 @@ fn own_held(directory: Directory, x: &Node) -> bool
 }
 
 fn own_blocked(x: &Node) -> bool
-    ensures { (h i b : ℕ) (l : Local) → IsNode x.now h l i b → Decides result (i ≡ h → l.mode ≡ mode.Blocked b → own_rd l i b + own_wr l i b + held_home (l.blocks b).rest ≡ 1) }
+    ensures { (h i b : ℕ) (l : Local) → IsNode x.now h l i b →
+        Decides result (i ≡ h → l.mode ≡ mode.Blocked b → own_rd l i b + own_wr l i b + held_home (l.blocks b).rest ≡ 1) }
 {
     implies(
         x.own,
@@ -169,20 +180,23 @@ fn own_blocked(x: &Node) -> bool
 }
 
 fn woken_loads(x: &Node) -> bool
-    ensures { (h i b : ℕ) (l : Local) → IsNode x.now h l i b → Decides result (l.mode ≡ mode.Woken → l.may ≡ true → l.next ≡ Loads b → allows_load (l.blocks b).tag) }
+    ensures { (h i b : ℕ) (l : Local) → IsNode x.now h l i b →
+        Decides result (l.mode ≡ mode.Woken → l.may ≡ true → l.next ≡ Loads b → allows_load (l.blocks b).tag) }
 {
     implies(x.woken, implies(x.may, implies(x.loads, loads_at(x.tag))))
 }
 
 fn woken_stores(x: &Node) -> bool
-    ensures { (h i b : ℕ) (l : Local) → IsNode x.now h l i b → Decides result (l.mode ≡ mode.Woken → l.may ≡ true → l.next ≡ Stores b → allows_store (l.blocks b).tag) }
+    ensures { (h i b : ℕ) (l : Local) → IsNode x.now h l i b →
+        Decides result (l.mode ≡ mode.Woken → l.may ≡ true → l.next ≡ Stores b → allows_store (l.blocks b).tag) }
 {
     implies(x.woken, implies(x.may, implies(x.stores, stores_at(x.tag))))
 }
 
 /// Whether a node waits for the block only where it has asked for it, and completes its access when it is woken.
 pub fn node_fits(directory: Directory, x: &Node) -> bool
-    ensures { (s : Layout) (i b : ℕ) (l : Local) → IsNode x.now (s.home b) l i b → Decides result (AtNodeUnder directory s l i b) }
+    ensures { (s : Layout) (i b : ℕ) (l : Local) → IsNode x.now (s.home b) l i b →
+        Decides result (AtNodeUnder directory s l i b) }
 {
     let woken = both(woken_loads(x), woken_stores(x));
     let held = both(own_held(directory, x), both(own_blocked(x), woken));

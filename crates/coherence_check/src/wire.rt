@@ -19,7 +19,8 @@ pub fn is_of(m: &Message, block: BlockId) -> bool
 
 #[tactic(auto, using(crate::proofs::Saying::saying))]
 fn with_one(so_far: Summary, m: &Message, block: BlockId, count: u8, words: Data) -> Summary
-    ensures { (k : ℕ) (ms : List Letter) → slice_get ms k ≡ Some m.now → IsSummary count words so_far (said_to block k ms) → IsSummary count words result (said_to block (k + 1) ms) }
+    ensures { (k : ℕ) (ms : List Letter) → slice_get ms k ≡ Some m.now → IsSummary count words so_far (said_to block k ms) →
+        IsSummary count words result (said_to block (k + 1) ms) }
 {
     if is_of(m, block) {
         so_far.and(&note_of(m), count, words)
@@ -38,7 +39,8 @@ pub fn said(
     at_home: Data,
 ) -> Summary
     requires { from < (setup_of g.now).shape.nodes }
-    ensures { IsSummary (setup_of g.now).shape.words at_home result (notes block (map seen_message ((world_of g.now).wires from to chan))) }
+    ensures { IsSummary (setup_of g.now).shape.words at_home result
+        (notes block (map seen_message ((world_of g.now).wires from to chan))) }
 {
     let count = words(g);
     let mut summary = Summary::new();

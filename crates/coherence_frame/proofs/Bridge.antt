@@ -14,7 +14,8 @@ use Rattle.block_spots.specs.Sketches.{Layout, Sketch, home_at, spot_at}
 use Rattle.block_spots.specs.Views.{layout, seen_message}
 use Rattle.coherence_frame.specs.Words.{AllSentBy, IsHomeState}
 use Rattle.coherence_frame.specs.Coherent.{AtBlock, AtHome, Coherent}
-use Rattle.coherence_frame.specs.Parts.{First, Second, Third, Fourth, Fifth, Sixth, Seventh, IsCoherent, Which, Part, current, seen, IsTreeOf}
+use Rattle.coherence_frame.specs.Parts.{First, Second, Third, Fourth, Fifth, Sixth, Seventh, IsCoherent, Which, Part, current}
+use Rattle.coherence_frame.specs.Parts.{seen, IsTreeOf}
 
 sent_seen : (s : Setup) (f t : ℕ) (ms : List Message) → Each (IsOnTheWay s f t) ms → AllSentBy f (map seen_message ms)
 sent_seen s f t [] h = tt
@@ -24,7 +25,9 @@ home_below : (s : Setup) (b : ℕ) → IsSetup s → home_of s b < s.shape.nodes
 home_below s b is = let some : 0 < s.shape.nodes = is.limits.some_node in omega (arith, some)
 
 module _ (scheme : Scheme) where
-  pub coherent_of : (s : Setup) (g : World) (flat : ℕ → List ℕ) → IsSetup s → IsRunState s g → IsCoherent scheme.wording s g → ((b : ℕ) → b < s.shape.blocks → current scheme.wording s g b ≡ flat b) → Coherent scheme.wording.standing (layout s) flat (seen scheme.wording s g)
+  pub coherent_of : (s : Setup) (g : World) (flat : ℕ → List ℕ) → IsSetup s → IsRunState s g → IsCoherent scheme.wording s g →
+      ((b : ℕ) → b < s.shape.blocks → current scheme.wording s g b ≡ flat b) →
+      Coherent scheme.wording.standing (layout s) flat (seen scheme.wording s g)
   coherent_of s g flat is state parts tie = record {
     homes = λ b. home_below s b is;
     block = λ b lb. (let p = parts b lb in record {
@@ -59,10 +62,12 @@ module _ (scheme : Scheme) where
   }
 
   -- coherence looks at one flat memory block by block
-  pub coherent_flat : (s : Layout) (flat flat2 : ℕ → List ℕ) (g : Sketch) → ((b : ℕ) → b < s.blocks → flat b ≡ flat2 b) → Coherent scheme.wording.standing s flat g → Coherent scheme.wording.standing s flat2 g
+  pub coherent_flat : (s : Layout) (flat flat2 : ℕ → List ℕ) (g : Sketch) → ((b : ℕ) → b < s.blocks → flat b ≡ flat2 b) →
+      Coherent scheme.wording.standing s flat g → Coherent scheme.wording.standing s flat2 g
   coherent_flat s flat flat2 g same k = record {
     homes = k.homes;
-    block = λ b lb. subst (λ ws. AtBlock scheme.wording.standing s.nodes (s.home b) ws (home_at g b (s.home b)) (spot_at g b (s.home b))) (same b lb) (k.block b lb);
+    block = λ b lb. subst (λ ws. AtBlock scheme.wording.standing s.nodes (s.home b) ws (home_at g b (s.home b))
+        (spot_at g b (s.home b))) (same b lb) (k.block b lb);
     elsewhere = k.elsewhere;
     node = k.node;
     settled = k.settled;
@@ -80,7 +85,9 @@ module _ (scheme : Scheme) where
       go HomePut p = rw p tt
       go x p = absurd (let i : SomeInfos n h home.state home = scheme.says.infos n h home home.state a.infos in grind arith)
 
-  module _ (s : Setup) (g : World) (flat : ℕ → List ℕ) (k : Coherent scheme.wording.standing (layout s) flat (seen scheme.wording s g)) (is : IsTreeOf scheme.wording s.protocol) (unfailed : (i : ℕ) → i < s.shape.nodes → (g.locals i).failed ≡ None)
+  module _ (s : Setup) (g : World) (flat : ℕ → List ℕ) (k : Coherent scheme.wording.standing (layout s) flat
+      (seen scheme.wording s g)) (is : IsTreeOf scheme.wording s.protocol)
+      (unfailed : (i : ℕ) → i < s.shape.nodes → (g.locals i).failed ≡ None)
       (placed : (i b : ℕ) → i < s.shape.nodes → b < s.shape.blocks → scheme.wording.IsPlaced ((g.locals i).blocks b))
       (long : (f t b : ℕ) (c : Chan) → Each (HasLength s.shape.words) (notes b ((seen scheme.wording s g).wires f t c))) where
     part : (b : ℕ) → b < s.shape.blocks → (q : Which) → Part scheme.wording s g b q
@@ -92,16 +99,33 @@ module _ (scheme : Scheme) where
       home_tag = a.at_home.tag;
       caches = λ i li d. ((a.caches i li d).state, (a.caches i li d).tag);
     }
-    part b lb Second = let a = k.block b lb in record { placed = λ i li. placed i b li lb; of_home = a.at_home.rest; of_caches = λ i li d. (a.caches i li d).rest }
+    part b lb Second = let a = k.block b lb in record {
+      placed = λ i li. placed i b li lb;
+      of_home = a.at_home.rest;
+      of_caches = λ i li d. (a.caches i li d).rest;
+    }
     part b lb Third = let a = k.block b lb in (
       record {
-        caches = λ i li d. ((a.caches i li d).asks, (a.caches i li d).keeps, scheme.shows.down_is _ _ _ _ i _ (a.caches i li d) (long _ _ b _), scheme.shows.up_is _ _ _ _ i _ (a.caches i li d) (long _ _ b _));
+        caches = λ i li d. (
+          (a.caches i li d).asks,
+          (a.caches i li d).keeps,
+          scheme.shows.down_is _ _ _ _ i _ (a.caches i li d) (long _ _ b _),
+          scheme.shows.up_is _ _ _ _ i _ (a.caches i li d) (long _ _ b _),
+        );
         own = (a.at_home.ask, a.at_home.down, a.at_home.up, a.at_home.faults);
       },
       k.elsewhere b lb,
     )
-    part b lb Fourth = let a = k.block b lb in (record { caches = λ i li d. (a.caches i li d).one; own = a.at_home.one; none = a.at_home.none }, λ i li. k.node i b li lb)
-    part b lb Fifth = let a = k.block b lb in record { infos = a.at_home.infos; caches = λ i li d. (a.caches i li d).stands; acks = a.acks }
+    part b lb Fourth = let a =
+        k.block b lb in (
+          record { caches = λ i li d. (a.caches i li d).one; own = a.at_home.one; none = a.at_home.none },
+          λ i li. k.node i b li lb,
+        )
+    part b lb Fifth = let a = k.block b lb in record {
+      infos = a.at_home.infos;
+      caches = λ i li d. (a.caches i li d).stands;
+      acks = a.acks;
+    }
     part b lb Sixth = let a = k.block b lb in scheme.shows.copies_of _ _ _ _ (λ i li d. (a.caches i li d).copies)
     part b lb Seventh = k.settled b lb
 

@@ -1,7 +1,8 @@
 -- A cache's handlers, which all protocols have in common: their table, and what they send.
 use Rattle.std.proofs.Common.{◌≡◌, ℕ, [], ◌∷◌, true, false, Option, Some, None, arith, refl}
 use Rattle.tw_base.specs.declared.value.Tag.TheVariants.{ReadOnly}
-use Rattle.block_spots.specs.Cases.{Kind, PutRo, RecallRo, State, CacheInv, CacheRo, CacheRw, CacheWaitRo, CacheWaitRw, Message, Here, Effect}
+use Rattle.block_spots.specs.Cases.{Kind, PutRo, RecallRo, State, CacheInv, CacheRo, CacheRw, CacheWaitRo, CacheWaitRw, Message}
+use Rattle.block_spots.specs.Cases.{Here, Effect}
 use Rattle.stache_table.specs.Handling.{cache_inv, cache_ro, cache_rw, cache_wait_ro, cache_wait_rw, carrying, goes}
 use Rattle.coherence_frame.specs.Words.{IsCacheState}
 use Rattle.coherence_frame.proofs.Rows.{IsOrder}
@@ -19,7 +20,8 @@ cache_by CacheWaitRw home me h m k = cache_wait_rw home me h m k
 cache_by _ home me h m k = None
 
 -- it sends to the home alone, and defers nothing
-pub cache_by_sends : (h i : ℕ) (here : Here) (m : Message) (e : Effect) → IsCacheState here.state → cache_by here.state h i here m m.kind ≡ Some e → (IsOrder m.kind → m.from ≡ h) → CacheSends h e
+pub cache_by_sends : (h i : ℕ) (here : Here) (m : Message) (e : Effect) → IsCacheState here.state →
+    cache_by here.state h i here m m.kind ≡ Some e → (IsOrder m.kind → m.from ≡ h) → CacheSends h e
 cache_by_sends h i here m e cs does order = go here.state refl
   where
     go : (x : State) → here.state ≡ x → CacheSends h e

@@ -1,5 +1,6 @@
 -- Messages of a protocol, by their numbers.
-use Rattle.std.proofs.Common.{Bool, true, false, ◌≡◌, ℕ, zero, suc, ◌<◌, List, [], ◌∷◌, map, Option, Some, None, refl, sym, ap, ◌∙◌}
+use Rattle.std.proofs.Common.{Bool, true, false, ◌≡◌, ℕ, zero, suc, ◌<◌, List, [], ◌∷◌, map, Option, Some, None, refl, sym, ap}
+use Rattle.std.proofs.Common.{◌∙◌}
 use Rattle.std.specs.Prelude.{is_some, slice_get}
 use Rattle.tw_base.specs.declared.message.Kind.{Kind}
 use Rattle.tw_base.specs.declared.message.Kind.TheVariants as number
@@ -82,14 +83,18 @@ long_kind cases.Recall w o h = tt
 long_kind cases.RecallRo w o h = tt
 
 module _ (scheme : Scheme) where
-  known_there : (p : Protocol) (n : ℕ) → IsTreeOf scheme.wording p → is_some (slice_get p.messages n) ≡ true → is_some (slice_get scheme.wording.tree.messages n) ≡ true
+  known_there : (p : Protocol) (n : ℕ) → IsTreeOf scheme.wording p → is_some (slice_get p.messages n) ≡ true →
+      is_some (slice_get scheme.wording.tree.messages n) ≡ true
   known_there p n is known = sym (ap (λ q. is_some (slice_get q.messages n)) is) ∙ bare_some p.messages n ∙ known
 
-  numbered_there : (p : Protocol) (n : ℕ) → IsTreeOf scheme.wording p → is_some (slice_get p.messages n) ≡ true → IsNumbered scheme.wording.tree n
+  numbered_there : (p : Protocol) (n : ℕ) → IsTreeOf scheme.wording p → is_some (slice_get p.messages n) ≡ true →
+      IsNumbered scheme.wording.tree n
   numbered_there p n is known = scheme.shows.numbers n (known_there p n is known)
 
-  carried_is : (p : Protocol) (n : ℕ) → IsTreeOf scheme.wording p → is_some (slice_get p.messages n) ≡ true → carries (slice_get p.messages n) ≡ has_data (seen_kind (number.Named n))
-  carried_is p n is known = sym (bare_carries p.messages n) ∙ ap (λ q. carries (slice_get q.messages n)) is ∙ (numbered_there p n is known).2
+  carried_is : (p : Protocol) (n : ℕ) → IsTreeOf scheme.wording p → is_some (slice_get p.messages n) ≡ true →
+      carries (slice_get p.messages n) ≡ has_data (seen_kind (number.Named n))
+  carried_is p n is known = sym (bare_carries p.messages n) ∙ ap (λ q. carries (slice_get q.messages n)) is
+      ∙ (numbered_there p n is known).2
 
   kind_back : (p : Protocol) (k : Kind) → IsTreeOf scheme.wording p → is_known p k ≡ true → k ≡ kind_of (seen_kind k)
   kind_back p number.RdFault is known = refl
@@ -101,13 +106,16 @@ module _ (scheme : Scheme) where
   known_here p number.WrFault is known = refl
   known_here p (number.Named n) is known = known_there p n is known
 
-  pub channel_declared : (p : Protocol) (k : Kind) → IsTreeOf scheme.wording p → is_known p k ≡ true → chan_of p k ≡ channel_of (seen_kind k)
+  pub channel_declared : (p : Protocol) (k : Kind) → IsTreeOf scheme.wording p → is_known p k ≡ true →
+      chan_of p k ≡ channel_of (seen_kind k)
   channel_declared p number.RdFault is known = refl
   channel_declared p number.WrFault is known = refl
-  channel_declared p (number.Named n) is known = sym (bare_chan p.messages n) ∙ ap (λ q. declared_chan (slice_get q.messages n)) is ∙ (numbered_there p n is known).1
+  channel_declared p (number.Named n) is known = sym (bare_chan p.messages n)
+      ∙ ap (λ q. declared_chan (slice_get q.messages n)) is ∙ (numbered_there p n is known).1
 
   -- a message of the protocol: a fault is the node's own, another comes from one of eight nodes
-  pub message_coming : (p : Protocol) (w : ℕ) (m : Message) (here : Place) → IsTreeOf scheme.wording p → IsMessageOf p w m → (is_fault m.kind ≡ true → m.from ≡ here.me) → m.from < 8 → m.block ≡ here.block → IsComing scheme.wording.tree m here
+  pub message_coming : (p : Protocol) (w : ℕ) (m : Message) (here : Place) → IsTreeOf scheme.wording p → IsMessageOf p w m →
+      (is_fault m.kind ≡ true → m.from ≡ here.me) → m.from < 8 → m.block ≡ here.block → IsComing scheme.wording.tree m here
   message_coming p w m here is of own lt block = record {
     known = known_here p m.kind is of.known;
     kind = kind_back p m.kind is of.known;
@@ -128,9 +136,11 @@ module _ (scheme : Scheme) where
           let known : is_some (slice_get p.messages n) ≡ true = (let z = of.known in rw e at z) in
           let words : carries (slice_get p.messages n) ≡ true → HasWords w m.payload = (let z = of.carried in rw e at z) in
           let plain : carries (slice_get p.messages n) ≡ false → m.payload ≡ None = (let z = of.plain in rw e at z) in
-          carried_if w m.payload (carries (slice_get p.messages n)) words plain ∙ carried_is p n is known ∙ ap (λ k. has_data (seen_kind k)) (sym e)
+          carried_if w m.payload (carries (slice_get p.messages n)) words plain ∙ carried_is p n is known
+          ∙ ap (λ k. has_data (seen_kind k)) (sym e)
 
-  pub long_message : (p : Protocol) (w : ℕ) (m : Message) → IsTreeOf scheme.wording p → IsMessageOf p w m → HasLength w (note (seen_message m))
+  pub long_message : (p : Protocol) (w : ℕ) (m : Message) → IsTreeOf scheme.wording p → IsMessageOf p w m →
+      HasLength w (note (seen_message m))
   long_message p w m is of = go m.kind refl
     where
       go : (k : Kind) → m.kind ≡ k → HasLength w (note (seen_message m))

@@ -39,15 +39,31 @@ first_or_stale [] = inl tt
 first_or_stale (w ∷ ws) = go w.eligible refl (first_or_stale ws)
   where
     go : (b : Bool) → w.eligible ≡ b → Each IsStale ws ⊎ Found ws → Each IsStale (w ∷ ws) ⊎ Found (w ∷ ws)
-    go true e r = inr (record { message = w.message; earlier = []; later = ws; takes = record { found = ap (λ (t : Bool). let x : Waiting = record { message = w.message; eligible = t } in x ∷ ws) e; stale = tt } })
+    go true e r =
+        inr (record {
+          message = w.message;
+          earlier = [];
+          later = ws;
+          takes = record {
+            found = ap (λ (t : Bool). let x : Waiting = record { message = w.message; eligible = t } in x ∷ ws) e;
+            stale = tt;
+          };
+        })
     go false e (inl h) = inl (e, h)
-    go false e (inr f) = inr (record { message = f.message; earlier = w ∷ f.earlier; later = f.later; takes = record { found = ap (λ (x : List Waiting). w ∷ x) f.takes.found; stale = (e, f.takes.stale) } })
+    go false e (inr f) =
+        inr (record {
+          message = f.message;
+          earlier = w ∷ f.earlier;
+          later = f.later;
+          takes = record { found = ap (λ (x : List Waiting). w ∷ x) f.takes.found; stale = (e, f.takes.stale) };
+        })
 
 stale_seen : (ws : List Waiting) → Each IsStale ws → Each (λ w. w.eligible ≡ false) (map seen_waiting ws)
 stale_seen [] h = tt
 stale_seen (w ∷ ws) h = (h.0, stale_seen ws h.1)
 
-within_seen : (s : Setup) (i : ℕ) (ws : List Waiting) → Each (λ w. IsDeferredAt s i w.message) ws → Each (λ w. w.message.block < s.shape.blocks) (map seen_waiting ws)
+within_seen : (s : Setup) (i : ℕ) (ws : List Waiting) → Each (λ w. IsDeferredAt s i w.message) ws →
+    Each (λ w. w.message.block < s.shape.blocks) (map seen_waiting ws)
 within_seen s i [] h = tt
 within_seen s i (w ∷ ws) h = (h.0.block, within_seen s i ws h.1)
 
@@ -58,7 +74,8 @@ none_seen (w ∷ ws) e = absurd cc
 module _ (scheme : Scheme) where
   -- ---- a state in which no event may happen
 
-  module _ (s : Setup) (g : World) (m : Machine) (is : IsSetup s) (k : IsKept scheme.wording s g m) (u : Unspent s g) (quiet : IsQuiet s g) where
+  module _ (s : Setup) (g : World) (m : Machine) (is : IsSetup s) (k : IsKept scheme.wording s g m) (u : Unspent s g)
+      (quiet : IsQuiet s g) where
     may_handle : (i : ℕ) → i < s.shape.nodes → MayHandle s (g.locals i)
     may_handle i l = record {
       unfailed = (k.coherent 0 is.limits.some_block First).unfailed i l;
@@ -73,7 +90,17 @@ module _ (scheme : Scheme) where
       where
         go : Each IsStale (g.locals i).deferred ⊎ Found (g.locals i).deferred → Each IsStale (g.locals i).deferred
         go (inl h) = h
-        go (inr f) = absurd (quiet (event.Redeliver i) (l, record { may = may_handle i l; message = f.message; earlier = f.earlier; later = f.later; takes = f.takes }))
+        go (inr f) =
+            absurd (quiet (event.Redeliver i) (
+              l,
+              record {
+                may = may_handle i l;
+                message = f.message;
+                earlier = f.earlier;
+                later = f.later;
+                takes = f.takes;
+              },
+            ))
 
     none_in_flight : (f t : ℕ) (c : Chan) → f < s.shape.nodes → t < s.shape.nodes → g.wires f t c ≡ []
     none_in_flight f t c lf lt = go (g.wires f t c) refl
@@ -81,8 +108,20 @@ module _ (scheme : Scheme) where
         go : (ms : List Message) → g.wires f t c ≡ ms → g.wires f t c ≡ []
         go [] e = e
         go (x ∷ ms) e =
-            let early : Each (λ m. m.stamp < last_stamp) (x ∷ ms) = subst (λ (ys : List Message). Each (λ m. m.stamp < last_stamp) ys) e (u.stamps f t c) in
-            absurd (quiet (event.Deliver t f c) (lt, lf, record { may = may_handle t lt; none_eligible = none_eligible t lt; message = x; rest = ms; front = e; early = early.0 }))
+            let early : Each (λ m. m.stamp < last_stamp) (x ∷ ms) =
+            subst (λ (ys : List Message). Each (λ m. m.stamp < last_stamp) ys) e (u.stamps f t c) in
+            absurd (quiet (event.Deliver t f c) (
+              lt,
+              lf,
+              record {
+                may = may_handle t lt;
+                none_eligible = none_eligible t lt;
+                message = x;
+                rest = ms;
+                front = e;
+                early = early.0;
+              },
+            ))
 
     still : IsStill (layout s) (seen scheme.wording s g)
     still = record {
@@ -94,8 +133,11 @@ module _ (scheme : Scheme) where
     pub quiet_is_done : BlockedWithin (layout s) (seen scheme.wording s g) → IsDone s g
     quiet_is_done w = record {
       wires = none_in_flight;
-      deferred = λ i l. none_seen (g.locals i).deferred (none_deferred (plan_of scheme) (layout s) (block_slice s.shape.words m.words) (seen scheme.wording s g) (kept_coherent scheme s g m is k) still i l);
-      modes = λ i b l e. none_blocked (plan_of scheme) (layout s) (block_slice s.shape.words m.words) (seen scheme.wording s g) (kept_coherent scheme s g m is k) still w i b l e;
+      deferred =
+          λ i l. none_seen (g.locals i).deferred (none_deferred (plan_of scheme) (layout s) (block_slice s.shape.words m.words)
+          (seen scheme.wording s g) (kept_coherent scheme s g m is k) still i l);
+      modes = λ i b l e. none_blocked (plan_of scheme) (layout s) (block_slice s.shape.words m.words) (seen scheme.wording s g)
+          (kept_coherent scheme s g m is k) still w i b l e;
     }
 
   -- ---- runs
@@ -105,12 +147,14 @@ module _ (scheme : Scheme) where
     kept : IsKept scheme.wording s h machine
     blocked : BlockedWithin (layout s) (seen scheme.wording s h)
 
-  run_ends : (s : Setup) (g : World) (j : List Entry) (h : World) (m : Machine) → IsSetup s → IsKept scheme.wording s g m → BlockedWithin (layout s) (seen scheme.wording s g) → Runs s g j h → Ends s h
+  run_ends : (s : Setup) (g : World) (j : List Entry) (h : World) (m : Machine) → IsSetup s → IsKept scheme.wording s g m →
+      BlockedWithin (layout s) (seen scheme.wording s g) → Runs s g j h → Ends s h
   run_ends s g [] h m is k w r = subst (λ (x : World). Ends s x) r (record { machine = m; kept = k; blocked = w })
   run_ends s g (e ∷ j) h m is k w r =
       let x = step_shown scheme s g e r.0 m is k r.1 in
       let on = events_keep scheme s g e r.0 m is k r.1 in
-      run_ends s r.0 j h on.goes.next is on.kept (blocked_stays (plan_of scheme) (layout s) (seen scheme.wording s g) x.deed (seen scheme.wording s r.0) x.step w) r.2
+      run_ends s r.0 j h on.goes.next is on.kept (blocked_stays (plan_of scheme) (layout s) (seen scheme.wording s g) x.deed
+      (seen scheme.wording s r.0) x.step w) r.2
 
   start_blocked : (s : Setup) → BlockedWithin (layout s) (seen scheme.wording s (start s))
   start_blocked s i b l e = absurd (let z : mode.Running ≡ mode.Blocked b = e in cc)

@@ -35,7 +35,15 @@ state_in xs None = 0
 state_in xs (Some x) = unwrap_or (position (λ y. bytes_eq y.name x.state) xs) 0
 
 unfoldable pub place_of : (i h b n : ℕ) (infos : List Value) (tag : Tag) (ws : List ℕ) → Place
-place_of i h b n infos tag ws = record { me = i; home = h; block = b; infos = infos; state = roll-StateVal (record { state = n; args = []; cont = None }); tag = tag; words = ws }
+place_of i h b n infos tag ws = record {
+  me = i;
+  home = h;
+  block = b;
+  infos = infos;
+  state = roll-StateVal (record { state = n; args = []; cont = None });
+  tag = tag;
+  words = ws;
+}
 
 -- block b, whose home is h, at node i
 abbrev pub first_place : (i h b : ℕ) → Bool → List ℕ → Place

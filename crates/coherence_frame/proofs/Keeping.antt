@@ -28,7 +28,8 @@ module _ (scheme : Scheme) where
   -- ---- an event
 
   -- what is coherent for one flat memory is so for the words of the next, if the event saw them written
-  module _ (s : Setup) (setup : IsSetup s) (g : World) (m : Machine) (kept : IsKept scheme.wording s g m) (e : Entry) (h : World) (r : Step s g e h) (after : IsRunState s h) (x : IsSeen scheme s m g e h) (goes : FlatGoesOn s m e h) where
+  module _ (s : Setup) (setup : IsSetup s) (g : World) (m : Machine) (kept : IsKept scheme.wording s g m) (e : Entry)
+      (h : World) (r : Step s g e h) (after : IsRunState s h) (x : IsSeen scheme s m g e h) (goes : FlatGoesOn s m e h) where
     proof_form : Coherent scheme.wording.standing (layout s) (block_slice s.shape.words m.words) (seen scheme.wording s g)
     proof_form = coherent_of scheme s g (block_slice s.shape.words m.words) setup kept.state kept.coherent kept.tied.words
 
@@ -36,9 +37,11 @@ module _ (scheme : Scheme) where
     tree_is = (kept.coherent 0 setup.limits.some_block First).stache
 
     next_form : Coherent scheme.wording.standing (layout s) (block_slice s.shape.words goes.next.words) (seen scheme.wording s h)
-    next_form = coherent_flat scheme (layout s) (flat_after x.deed (block_slice s.shape.words m.words)) (block_slice s.shape.words goes.next.words) (seen scheme.wording s h)
+    next_form = coherent_flat scheme (layout s) (flat_after x.deed (block_slice s.shape.words m.words))
+        (block_slice s.shape.words goes.next.words) (seen scheme.wording s h)
         (λ b lb. x.words b lb ∙ ap (λ ws. block_slice s.shape.words ws b) (sym goes.words))
-        (sketch.step_keeps (plan_of scheme) (layout s) (block_slice s.shape.words m.words) (seen scheme.wording s g) x.deed (seen scheme.wording s h) x.step proof_form)
+        (sketch.step_keeps (plan_of scheme) (layout s) (block_slice s.shape.words m.words) (seen scheme.wording s g) x.deed
+        (seen scheme.wording s h) x.step proof_form)
 
     unfailed : (i : ℕ) → i < s.shape.nodes → (h.locals i).failed ≡ None
     unfailed i li = elim (cases_eq i e.node) [
@@ -49,13 +52,15 @@ module _ (scheme : Scheme) where
     placed : (i b : ℕ) → i < s.shape.nodes → b < s.shape.blocks → scheme.wording.IsPlaced ((h.locals i).blocks b)
     placed i b li lb = elim (cases_eq i e.node) [
       | inl q ↦ subst (λ k. scheme.wording.IsPlaced ((h.locals k).blocks b)) (sym q) (x.placed b lb)
-      | inr d ↦ subst (λ (l : Local). scheme.wording.IsPlaced (l.blocks b)) (sym (r.others i d)) ((kept.coherent b lb Second).placed i li)
+      | inr d ↦ subst (λ (l : Local). scheme.wording.IsPlaced (l.blocks b)) (sym (r.others i d))
+          ((kept.coherent b lb Second).placed i li)
     ]
 
     pub kept_after : IsKept scheme.wording s h goes.next
     kept_after = record {
       state = after;
-      coherent = parts_of scheme s h (block_slice s.shape.words goes.next.words) next_form tree_is unfailed placed (long_on_way scheme s h tree_is after);
+      coherent = parts_of scheme s h (block_slice s.shape.words goes.next.words) next_form tree_is unfailed placed
+          (long_on_way scheme s h tree_is after);
       tied = record { words = λ b lb. (next_form.block b lb).tie; beside = goes.beside };
     }
 
@@ -68,7 +73,8 @@ module _ (scheme : Scheme) where
   pub events_keep : EventsKeep scheme.wording
   events_keep s g e h m setup kept r =
       let after = step_keeps s g e h setup kept.state r in
-      let form : Coherent scheme.wording.standing (layout s) (block_slice s.shape.words m.words) (seen scheme.wording s g) = coherent_of scheme s g (block_slice s.shape.words m.words) setup kept.state kept.coherent kept.tied.words in
+      let form : Coherent scheme.wording.standing (layout s) (block_slice s.shape.words m.words) (seen scheme.wording s g) =
+      coherent_of scheme s g (block_slice s.shape.words m.words) setup kept.state kept.coherent kept.tied.words in
       let x : IsSeen scheme s m g e h = step_seen scheme s setup g m kept.state kept.coherent form e h r after in
       let goes : FlatGoesOn s m e h = due_steps_are_flat s g e h m setup kept.tied.beside r x.due in
       record { due = x.due; goes = goes; kept = kept_after s setup g m kept e h r after x goes }
@@ -78,8 +84,13 @@ module _ (scheme : Scheme) where
   pub starts_kept : StartsKept scheme.wording
   starts_kept s setup is = start_kept scheme s setup is first_word (runs_keep s [] (start s) setup refl) (beside_start s)
 
-  pub goes_on : (s : Setup) (es : List Entry) (g h : World) (m : Machine) → IsSetup s → IsKept scheme.wording s g m → Runs s g es h → GoesOn s m es h
-  goes_on s [] g h m setup kept r = record { flat = m; follows = refl; kept = subst (λ (w : World). IsKept scheme.wording s w m) r kept }
+  pub goes_on : (s : Setup) (es : List Entry) (g h : World) (m : Machine) → IsSetup s → IsKept scheme.wording s g m →
+      Runs s g es h → GoesOn s m es h
+  goes_on s [] g h m setup kept r = record {
+    flat = m;
+    follows = refl;
+    kept = subst (λ (w : World). IsKept scheme.wording s w m) r kept;
+  }
   goes_on s (e ∷ es) g h m setup kept r =
       let on : KeepsOn scheme.wording s m e r.0 = events_keep s g e r.0 m setup kept r.1 in
       let rest : GoesOn s on.goes.next es h = goes_on s es r.0 h on.goes.next setup on.kept r.2 in

@@ -1,7 +1,8 @@
 -- What an event at a node does to the facts on its mode and its next instruction.
 use Rattle.std.proofs.Common.{◌≡◌, ◌≢◌, ℕ, ◌+◌, ◌≤◌, Bool, true, false, arith, refl, sym, ap, ◌∙◌, inl, inr, ◌⊎◌}
 use Rattle.std.proofs.lemmas.Bool.Decides.{nat_tests}
-use Rattle.block_spots.specs.Cases.{Kind, RdFault, WrFault, State, CacheRo, CacheRw, CacheWaitRo, CacheWaitRw, Message, Here, Kept, No, Stale, Effect}
+use Rattle.block_spots.specs.Cases.{Kind, RdFault, WrFault, State, CacheRo, CacheRw, CacheWaitRo, CacheWaitRw, Message, Here}
+use Rattle.block_spots.specs.Cases.{Kept, No, Stale, Effect}
 use Rattle.block_spots.specs.Notes.{Note, NAck, note, kept_notes, held_home, is_rd_fault, is_wr_fault}
 use Rattle.block_spots.specs.Sketches.{Local, Layout, Next, Loads, Stores}
 use Rattle.dsm_runs.specs.Events.{mode_after}
@@ -29,7 +30,8 @@ pub mode_woken : (t : Bool) (c : ℕ) (x : Mode) → mode_after t c x ≡ Woken 
 mode_woken t c x h = grind (arith, nat_tests)
 
 -- a node that is not woken, unless it may not step, reads no tag
-pub unwoken : (l l2 : Local) → l2.mode ≡ l.mode → (l.may ≡ false → l2.may ≡ false) → (l.mode ≡ Woken → l.may ≡ false) → l2.mode ≡ Woken → l2.may ≡ true → ⊥
+pub unwoken : (l l2 : Local) → l2.mode ≡ l.mode → (l.may ≡ false → l2.may ≡ false) → (l.mode ≡ Woken → l.may ≡ false) →
+    l2.mode ≡ Woken → l2.may ≡ true → ⊥
 unwoken l l2 mo ma fr x y = let f : l2.may ≡ false = ma (fr (sym mo ∙ x)) in cc
 
 -- what is kept, or an ACK where nothing is
@@ -42,15 +44,19 @@ note_kept e m = kept_note e.kept (note m)
 
 module _ (words : Standing) where
   -- another block of the node: the mode may have gone from blocked on c to woken
-  pub node_frame : (s : Layout) (l l2 : Local) (i b c : ℕ) (woke : Bool) → AtNode words s l i b → (l.mode ≡ Blocked c → (l.next ≡ Loads c) ⊎ (l.next ≡ Stores c)) → Seen l l2 i b → b ≢ c →
-      l2.mode ≡ mode_after woke c l.mode → l2.next ≡ l.next → (l.may ≡ false → l2.may ≡ false) → (l.mode ≡ Woken → l.may ≡ false) → AtNode words s l2 i b
+  pub node_frame : (s : Layout) (l l2 : Local) (i b c : ℕ) (woke : Bool) → AtNode words s l i b →
+      (l.mode ≡ Blocked c → (l.next ≡ Loads c) ⊎ (l.next ≡ Stores c)) → Seen l l2 i b → b ≢ c →
+      l2.mode ≡ mode_after woke c l.mode → l2.next ≡ l.next → (l.may ≡ false → l2.may ≡ false) →
+      (l.mode ≡ Woken → l.may ≡ false) → AtNode words s l2 i b
   node_frame s l l2 i b c woke a ac v d mo ne ma fr = record {
     waits_ro = λ q e. (let w : (l.mode ≡ Blocked b) × (l.next ≡ Loads b) = a.waits_ro q (sym state ∙ e) in (stays w.0, ne ∙ w.1));
-    waits_rw = λ q e. (let w : (l.mode ≡ Blocked b) × (l.next ≡ Stores b) = a.waits_rw q (sym state ∙ e) in (stays w.0, ne ∙ w.1));
+    waits_rw =
+        λ q e. (let w : (l.mode ≡ Blocked b) × (l.next ≡ Stores b) = a.waits_rw q (sym state ∙ e) in (stays w.0, ne ∙ w.1));
     blocked = λ q e. rw state (a.blocked q (was e));
     rd = λ q e. (let w : (l.mode ≡ Blocked b) × (l.next ≡ Loads b) = a.rd q (rw v.kept at e) in (stays w.0, ne ∙ w.1));
     wr = λ q e. (let w : (l.mode ≡ Blocked b) × (l.next ≡ Stores b) = a.wr q (rw v.kept at e) in (stays w.0, ne ∙ w.1));
-    held = λ q e. (let w : (l.mode ≡ Blocked b) × words.HeldFor (l.blocks b).state (l.blocks b).rest l.next b = a.held q (rw v.block at e) in (stays w.0, rw (v.block, ne) w.1));
+    held = λ q e. (let w : (l.mode ≡ Blocked b) × words.HeldFor (l.blocks b).state (l.blocks b).rest l.next b = a.held q
+        (rw v.block at e) in (stays w.0, rw (v.block, ne) w.1));
     blocked_home = λ q e. rw (v.kept, v.block) (a.blocked_home q (was e));
     woken_loads = λ x y z. absurd (woken x y (inl (sym ne ∙ z)));
     woken_stores = λ x y z. absurd (woken x y (inr (sym ne ∙ z)));
@@ -84,7 +90,8 @@ module _ (words : Standing) where
 
   -- the node at a cache of b, when its row leaves it not waiting
   pub cache_quiet : (s : Layout) (l2 : Local) (i b : ℕ) → i ≢ s.home b → ¬ IsWaiting (l2.blocks b).state → l2.mode ≢ Blocked b →
-      (l2.mode ≡ Woken → l2.may ≡ true → l2.next ≡ Loads b → allows_load (l2.blocks b).tag) → (l2.mode ≡ Woken → l2.may ≡ true → l2.next ≡ Stores b → allows_store (l2.blocks b).tag) → AtNode words s l2 i b
+      (l2.mode ≡ Woken → l2.may ≡ true → l2.next ≡ Loads b → allows_load (l2.blocks b).tag) →
+      (l2.mode ≡ Woken → l2.may ≡ true → l2.next ≡ Stores b → allows_store (l2.blocks b).tag) → AtNode words s l2 i b
   cache_quiet s l2 i b d w nb wl ws = record {
     waits_ro = λ q e. absurd (w (rw e tt));
     waits_rw = λ q e. absurd (w (rw e tt));
@@ -99,7 +106,8 @@ module _ (words : Standing) where
 
   -- when its row leaves it waiting
   pub cache_waits : (s : Layout) (l2 : Local) (i b : ℕ) → i ≢ s.home b → l2.mode ≡ Blocked b →
-      ((l2.blocks b).state ≡ CacheWaitRo) × (l2.next ≡ Loads b) ⊎ ((l2.blocks b).state ≡ CacheWaitRw) × (l2.next ≡ Stores b) → AtNode words s l2 i b
+      ((l2.blocks b).state ≡ CacheWaitRo) × (l2.next ≡ Loads b) ⊎ ((l2.blocks b).state ≡ CacheWaitRw) × (l2.next ≡ Stores b) →
+      AtNode words s l2 i b
   cache_waits s l2 i b d p w = record {
     waits_ro = λ q e. (p, ro w e);
     waits_rw = λ q e. (p, to_write w e);
@@ -113,7 +121,8 @@ module _ (words : Standing) where
   }
     where
       Both : Type 0
-      Both = ((l2.blocks b).state ≡ CacheWaitRo) × (l2.next ≡ Loads b) ⊎ ((l2.blocks b).state ≡ CacheWaitRw) × (l2.next ≡ Stores b)
+      Both = ((l2.blocks b).state ≡ CacheWaitRo) × (l2.next ≡ Loads b) ⊎ ((l2.blocks b).state ≡ CacheWaitRw)
+          × (l2.next ≡ Stores b)
 
       ro : Both → (l2.blocks b).state ≡ CacheWaitRo → l2.next ≡ Loads b
       ro (inl v) e = v.1
@@ -129,11 +138,17 @@ module _ (words : Standing) where
 
   -- what a row at the home does to the rest and to the node, at a message of another node
   pub record HomeEffect (home : Here) (e : Effect) : Type 0 where
-    pub sleeps : e.woke ≡ false → (held_home e.here.rest ≡ held_home home.rest) × (1 ≤ held_home e.here.rest → (x : Next) (b : ℕ) → words.HeldFor home.state home.rest x b → words.HeldFor e.here.state e.here.rest x b)
-    pub wakes : e.woke ≡ true → (1 ≤ held_home home.rest) × (held_home e.here.rest ≡ 0) × ((x : Next) (b : ℕ) → words.HeldFor home.state home.rest x b → (x ≡ Loads b → allows_load e.here.tag) × (x ≡ Stores b → allows_store e.here.tag))
+    pub sleeps : e.woke ≡ false → (held_home e.here.rest ≡ held_home home.rest)
+        × (1 ≤ held_home e.here.rest → (x : Next) (b : ℕ) → words.HeldFor home.state home.rest x b →
+        words.HeldFor e.here.state e.here.rest x b)
+    pub wakes : e.woke ≡ true → (1 ≤ held_home home.rest) × (held_home e.here.rest ≡ 0)
+        × ((x : Next) (b : ℕ) → words.HeldFor home.state home.rest x b →
+        (x ≡ Loads b → allows_load e.here.tag) × (x ≡ Stores b → allows_store e.here.tag))
 
-  pub node_home_other : (s : Layout) (l l2 : Local) (i b : ℕ) (e : Effect) → AtNode words s l i b → i ≡ s.home b → HomeEffect (l.blocks b) e →
-      kept_notes b i l2.deferred ≡ kept_notes b i l.deferred → l2.blocks b ≡ e.here → l2.mode ≡ mode_after e.woke b l.mode → l2.next ≡ l.next → (l.may ≡ false → l2.may ≡ false) → (l.mode ≡ Woken → l.may ≡ false) → AtNode words s l2 i b
+  pub node_home_other : (s : Layout) (l l2 : Local) (i b : ℕ) (e : Effect) → AtNode words s l i b → i ≡ s.home b →
+      HomeEffect (l.blocks b) e →
+      kept_notes b i l2.deferred ≡ kept_notes b i l.deferred → l2.blocks b ≡ e.here → l2.mode ≡ mode_after e.woke b l.mode →
+      l2.next ≡ l.next → (l.may ≡ false → l2.may ≡ false) → (l.mode ≡ Woken → l.may ≡ false) → AtNode words s l2 i b
   node_home_other s l l2 i b e a q he kept here mo ne ma fr = go e.woke refl
     where
       rest : held_home (l2.blocks b).rest ≡ held_home e.here.rest
@@ -147,7 +162,14 @@ module _ (words : Standing) where
         rd = λ _ x. (let v : (l.mode ≡ Blocked b) × (l.next ≡ Loads b) = a.rd q (rw kept at x) in (mode ∙ v.0, ne ∙ v.1));
         wr = λ _ x. (let v : (l.mode ≡ Blocked b) × (l.next ≡ Stores b) = a.wr q (rw kept at x) in (mode ∙ v.0, ne ∙ v.1));
         held = λ _ x. holds (rw rest at x);
-        blocked_home = λ _ x. omega (arith, ap (how_many is_rd_fault) kept, ap (how_many is_wr_fault) kept, rest, (he.sleeps w).0, a.blocked_home q (sym mode ∙ x));
+        blocked_home = λ _ x. omega (
+          arith,
+          ap (how_many is_rd_fault) kept,
+          ap (how_many is_wr_fault) kept,
+          rest,
+          (he.sleeps w).0,
+          a.blocked_home q (sym mode ∙ x),
+        );
         woken_loads = λ x y z. absurd (unwoken l l2 mode ma fr x y);
         woken_stores = λ x y z. absurd (unwoken l l2 mode ma fr x y);
       }
@@ -155,9 +177,11 @@ module _ (words : Standing) where
           mode : l2.mode ≡ l.mode
           mode = mo ∙ ap (λ z. mode_after z b l.mode) w
 
-          holds : 1 ≤ held_home e.here.rest → (l2.mode ≡ Blocked b) × words.HeldFor (l2.blocks b).state (l2.blocks b).rest l2.next b
+          holds : 1 ≤ held_home e.here.rest → (l2.mode ≡ Blocked b)
+              × words.HeldFor (l2.blocks b).state (l2.blocks b).rest l2.next b
           holds x =
-              let v : (l.mode ≡ Blocked b) × words.HeldFor (l.blocks b).state (l.blocks b).rest l.next b = a.held q (omega (arith, (he.sleeps w).0)) in
+              let v : (l.mode ≡ Blocked b) × words.HeldFor (l.blocks b).state (l.blocks b).rest l.next b =
+              a.held q (omega (arith, (he.sleeps w).0)) in
               (mode ∙ v.0, rw (here, ne) ((he.sleeps w).1 x l.next b v.1))
       go true w = record {
         waits_ro = λ d x. absurd (d q);
@@ -189,11 +213,13 @@ module _ (words : Standing) where
   -- the home's own fault
   pub record OwnEffect (m : Message) (e : Effect) (b : ℕ) : Type 0 where
     pub sleeps : e.woke ≡ false → (held_home e.here.rest + is_rd_fault (note_kept e m) + is_wr_fault (note_kept e m) ≡ 1)
-    pub holds : e.woke ≡ false → 1 ≤ held_home e.here.rest → (x : Next) → FaultOf b m.kind x → words.HeldFor e.here.state e.here.rest x b
+    pub holds : e.woke ≡ false → 1 ≤ held_home e.here.rest → (x : Next) → FaultOf b m.kind x →
+        words.HeldFor e.here.state e.here.rest x b
     pub wakes : e.woke ≡ true → (e.here.tag ≡ ReadOnly) × (m.kind ≡ RdFault) × (held_home e.here.rest ≡ 0) × (e.kept ≡ No)
 
   pub node_home_own : (s : Layout) (l l2 : Local) (i b : ℕ) (m : Message) (e : Effect) → i ≡ s.home b → OwnEffect m e b →
-      kept_notes b i l2.deferred ≡ kept_if e.kept (note m) → l2.blocks b ≡ e.here → l2.mode ≡ mode_after e.woke b l.mode → l2.next ≡ l.next → l.mode ≡ Blocked b →
+      kept_notes b i l2.deferred ≡ kept_if e.kept (note m) → l2.blocks b ≡ e.here → l2.mode ≡ mode_after e.woke b l.mode →
+      l2.next ≡ l.next → l.mode ≡ Blocked b →
       FaultOf b m.kind l.next → AtNode words s l2 i b
   node_home_own s l l2 i b m e q oe kept here mo ne was k = go e.woke refl
     where
@@ -222,7 +248,15 @@ module _ (words : Standing) where
         rd = λ _ x. (mode, ne ∙ rd_kind k (omega (arith, ap (how_many is_rd_fault) kept, count_rd, x)));
         wr = λ _ x. (mode, ne ∙ wr_kind k (omega (arith, ap (how_many is_wr_fault) kept, count_wr, x)));
         held = λ _ x. (mode, rw (here, ne) (oe.holds w (rw rest at x) l.next k));
-        blocked_home = λ _ x. omega (arith, ap (how_many is_rd_fault) kept, count_rd, ap (how_many is_wr_fault) kept, count_wr, rest, oe.sleeps w);
+        blocked_home = λ _ x. omega (
+          arith,
+          ap (how_many is_rd_fault) kept,
+          count_rd,
+          ap (how_many is_wr_fault) kept,
+          count_wr,
+          rest,
+          oe.sleeps w,
+        );
         woken_loads = λ x y z. absurd (let f : Blocked b ≡ Woken = sym mode ∙ x in cc);
         woken_stores = λ x y z. absurd (let f : Blocked b ≡ Woken = sym mode ∙ x in cc);
       }
@@ -257,7 +291,8 @@ module _ (words : Standing) where
   -- ---- the rows of a cache, at its node
 
   module _ (s : Layout) (l l2 : Local) (i b : ℕ) (e : Effect) (a : AtNode words s l i b) (d : i ≢ s.home b)
-      (here : l2.blocks b ≡ e.here) (mo : l2.mode ≡ mode_after e.woke b l.mode) (ne : l2.next ≡ l.next) (ma : l.may ≡ false → l2.may ≡ false) (fr : l.mode ≡ Woken → l.may ≡ false) where
+      (here : l2.blocks b ≡ e.here) (mo : l2.mode ≡ mode_after e.woke b l.mode) (ne : l2.next ≡ l.next)
+      (ma : l.may ≡ false → l2.may ≡ false) (fr : l.mode ≡ Woken → l.may ≡ false) where
     pub unblocked : (x : State) → (l.blocks b).state ≡ x → ¬ IsWaiting x → l.mode ≢ Blocked b
     unblocked x p w q = w (let f : IsWaiting (l.blocks b).state = a.blocked d q in rw p at f)
 
@@ -265,11 +300,13 @@ module _ (words : Standing) where
     pub loses_copy : (x : State) → e.woke ≡ false → e.here.state ≡ x → ¬ IsWaiting x → l.mode ≢ Blocked b → AtNode words s l2 i b
     loses_copy to w st calm nb =
         let mode : l2.mode ≡ l.mode = mo ∙ ap (λ z. mode_after z b l.mode) w in
-        cache_quiet s l2 i b d (λ z. calm (let f : IsWaiting to = rw (ap (λ y. y.state) here ∙ st) at z in f)) (λ z. nb (sym mode ∙ z))
+        cache_quiet s l2 i b d (λ z. calm (let f : IsWaiting to = rw (ap (λ y. y.state) here ∙ st) at z in f))
+        (λ z. nb (sym mode ∙ z))
         (λ x y. absurd (unwoken l l2 mode ma fr x y)) (λ x y. absurd (unwoken l l2 mode ma fr x y))
 
     -- data wakes it
-    pub gets_copy : l.mode ≡ Blocked b → e.woke ≡ true → (e.here.state ≡ CacheRo) × (e.here.tag ≡ ReadOnly) × (l.next ≡ Loads b) ⊎ (e.here.state ≡ CacheRw) × (e.here.tag ≡ ReadWrite) × (l.next ≡ Stores b) → AtNode words s l2 i b
+    pub gets_copy : l.mode ≡ Blocked b → e.woke ≡ true → (e.here.state ≡ CacheRo) × (e.here.tag ≡ ReadOnly)
+        × (l.next ≡ Loads b) ⊎ (e.here.state ≡ CacheRw) × (e.here.tag ≡ ReadWrite) × (l.next ≡ Stores b) → AtNode words s l2 i b
     gets_copy p w v =
         let mode : l2.mode ≡ Woken = mo ∙ ap (λ z. mode_after z b l.mode) w ∙ ap (mode_after true b) p ∙ own b in
         go v mode
@@ -277,10 +314,15 @@ module _ (words : Standing) where
         own : (c : ℕ) → mode_after true c (Blocked c) ≡ Woken
         own c = grind (arith, nat_tests)
 
-        go : (e.here.state ≡ CacheRo) × (e.here.tag ≡ ReadOnly) × (l.next ≡ Loads b) ⊎ (e.here.state ≡ CacheRw) × (e.here.tag ≡ ReadWrite) × (l.next ≡ Stores b) → l2.mode ≡ Woken → AtNode words s l2 i b
-        go (inl v) mode = cache_quiet s l2 i b d (λ z. (let f : IsWaiting CacheRo = rw (ap (λ y. y.state) here ∙ v.0) at z in f)) (λ z. (let f : Woken ≡ Blocked b = sym mode ∙ z in cc))
+        go : (e.here.state ≡ CacheRo) × (e.here.tag ≡ ReadOnly) × (l.next ≡ Loads b) ⊎ (e.here.state ≡ CacheRw)
+            × (e.here.tag ≡ ReadWrite) × (l.next ≡ Stores b) → l2.mode ≡ Woken → AtNode words s l2 i b
+        go (inl v) mode =
+            cache_quiet s l2 i b d (λ z. (let f : IsWaiting CacheRo = rw (ap (λ y. y.state) here ∙ v.0) at z in f))
+            (λ z. (let f : Woken ≡ Blocked b = sym mode ∙ z in cc))
             (λ x y z. rw (ap (λ y. y.tag) here ∙ v.1) refl) (λ x y z. (let f : Loads b ≡ Stores b = sym v.2 ∙ sym ne ∙ z in cc))
-        go (inr v) mode = cache_quiet s l2 i b d (λ z. (let f : IsWaiting CacheRw = rw (ap (λ y. y.state) here ∙ v.0) at z in f)) (λ z. (let f : Woken ≡ Blocked b = sym mode ∙ z in cc))
+        go (inr v) mode =
+            cache_quiet s l2 i b d (λ z. (let f : IsWaiting CacheRw = rw (ap (λ y. y.state) here ∙ v.0) at z in f))
+            (λ z. (let f : Woken ≡ Blocked b = sym mode ∙ z in cc))
             (λ x y z. rw (ap (λ y. y.tag) here ∙ v.1) refl) (λ x y z. rw (ap (λ y. y.tag) here ∙ v.1) refl)
 
     -- an INV at one that waits to write
@@ -290,8 +332,10 @@ module _ (words : Standing) where
         cache_waits s l2 i b d (mode ∙ (a.waits_rw d p).0) (inr (ap (λ z. z.state) here ∙ st, ne ∙ (a.waits_rw d p).1))
 
   -- a fault leaves it waiting
-  pub asks_for : (s : Layout) (l l2 : Local) (i b : ℕ) (m : Message) (e : Effect) → i ≢ s.home b → e.woke ≡ false → (m.kind ≡ RdFault → e.here.state ≡ CacheWaitRo) → (m.kind ≡ WrFault → e.here.state ≡ CacheWaitRw) →
-      l2.blocks b ≡ e.here → l2.mode ≡ mode_after e.woke b l.mode → l2.next ≡ l.next → l.mode ≡ Blocked b → FaultOf b m.kind l.next → AtNode words s l2 i b
+  pub asks_for : (s : Layout) (l l2 : Local) (i b : ℕ) (m : Message) (e : Effect) → i ≢ s.home b → e.woke ≡ false →
+      (m.kind ≡ RdFault → e.here.state ≡ CacheWaitRo) → (m.kind ≡ WrFault → e.here.state ≡ CacheWaitRw) →
+      l2.blocks b ≡ e.here → l2.mode ≡ mode_after e.woke b l.mode → l2.next ≡ l.next → l.mode ≡ Blocked b →
+      FaultOf b m.kind l.next → AtNode words s l2 i b
   asks_for s l l2 i b m e d woke ro to_write here mo ne p k = go k
     where
       mode : l2.mode ≡ Blocked b

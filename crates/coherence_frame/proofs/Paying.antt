@@ -1,5 +1,6 @@
 -- What a row may cost: the message pays for what the handler leaves behind.
-use Rattle.std.proofs.Common.{◌≡◌, ℕ, zero, suc, ◌+◌, ◌<◌, ◌≤◌, Bool, true, false, List, [], ◌∷◌, ◌++◌, length, arith, refl, sym, ap, ◌∙◌, inl, inr, cond}
+use Rattle.std.proofs.Common.{◌≡◌, ℕ, zero, suc, ◌+◌, ◌<◌, ◌≤◌, Bool, true, false, List, [], ◌∷◌, ◌++◌, length, arith, refl}
+use Rattle.std.proofs.Common.{sym, ap, ◌∙◌, inl, inr, cond}
 use Rattle.std.proofs.lemmas.Bool.{cases_eq}
 use Rattle.std.proofs.lemmas.List.{length-append}
 use Rattle.tw_base.specs.Lists.{one_if}
@@ -7,7 +8,8 @@ use Rattle.block_spots.specs.Cases.{Inv, Here, Message, Effect, members}
 use Rattle.block_spots.specs.Notes.{Note, NInv, note}
 use Rattle.stache_table.specs.Handling.{inv_all, plain}
 use Rattle.coherence_frame.specs.Weights.{weigh, price, rest_weight}
-use Rattle.coherence_frame.proofs.Loads.{outgoing, kept_weight, sum_below_add, sum_below_le, sum_below_ones, if_at, if_at_is, if_at_other, sum_if_at}
+use Rattle.coherence_frame.proofs.Loads.{outgoing, kept_weight, sum_below_add, sum_below_le, sum_below_ones, if_at, if_at_is}
+use Rattle.coherence_frame.proofs.Loads.{if_at_other, sum_if_at}
 use Rattle.coherence_frame.proofs.Stales.{stale_after}
 
 outgoing-append : (f : Note → ℕ) (xs ys : List Message) → outgoing f (xs ++ ys) ≡ outgoing f xs + outgoing f ys
@@ -25,7 +27,13 @@ members_zero s = refl
 -- INV to each member: so many messages, of this weight and price
 pub inv_count : (n : ℕ) (s : ℕ → Bool) (b me : ℕ) → length (inv_all n s b me) ≡ members n s
 inv_count zero s b me = sym (members_zero s)
-inv_count (suc n) s b me = omega (arith, length-append (inv_all n s b me) (cond (s n) (plain Inv b me n ∷ []) []), inv_count n s b me, members_more n s, last (s n))
+inv_count (suc n) s b me = omega (
+  arith,
+  length-append (inv_all n s b me) (cond (s n) (plain Inv b me n ∷ []) []),
+  inv_count n s b me,
+  members_more n s,
+  last (s n),
+)
   where
     last : (t : Bool) → length (cond t (plain Inv b me n ∷ []) []) ≡ one_if t
     last true = refl
@@ -33,15 +41,28 @@ inv_count (suc n) s b me = omega (arith, length-append (inv_all n s b me) (cond 
 
 pub inv_price : (f : Note → ℕ) → f NInv ≡ 1 → (n : ℕ) (s : ℕ → Bool) (b me : ℕ) → outgoing f (inv_all n s b me) ≡ members n s
 inv_price f v zero s b me = sym (members_zero s)
-inv_price f v (suc n) s b me = omega (arith, outgoing-append f (inv_all n s b me) (cond (s n) (plain Inv b me n ∷ []) []), inv_price f v n s b me, members_more n s, last (s n))
+inv_price f v (suc n) s b me = omega (
+  arith,
+  outgoing-append f (inv_all n s b me) (cond (s n) (plain Inv b me n ∷ []) []),
+  inv_price f v n s b me,
+  members_more n s,
+  last (s n),
+)
   where
     last : (t : Bool) → outgoing f (cond t (plain Inv b me n ∷ []) []) ≡ one_if t
     last true = omega (arith, v)
     last false = refl
 
-pub inv_weight : (f : Note → ℕ) → f NInv ≡ 2 → (n : ℕ) (s : ℕ → Bool) (b me : ℕ) → outgoing f (inv_all n s b me) ≡ members n s + members n s
+pub inv_weight : (f : Note → ℕ) → f NInv ≡ 2 → (n : ℕ) (s : ℕ → Bool) (b me : ℕ) →
+    outgoing f (inv_all n s b me) ≡ members n s + members n s
 inv_weight f v zero s b me = omega (arith, members_zero s)
-inv_weight f v (suc n) s b me = omega (arith, outgoing-append f (inv_all n s b me) (cond (s n) (plain Inv b me n ∷ []) []), inv_weight f v n s b me, members_more n s, last (s n))
+inv_weight f v (suc n) s b me = omega (
+  arith,
+  outgoing-append f (inv_all n s b me) (cond (s n) (plain Inv b me n ∷ []) []),
+  inv_weight f v n s b me,
+  members_more n s,
+  last (s n),
+)
   where
     last : (t : Bool) → outgoing f (cond t (plain Inv b me n ∷ []) []) ≡ one_if t + one_if t
     last true = omega (arith, v)
@@ -70,5 +91,8 @@ members_but n h s l e = omega (
 
 -- the message pays: for a handler event, for the messages sent, for the rest; v are the stale ones before
 pub record Paid (n : ℕ) (home : Here) (m : Message) (e : Effect) (v : ℕ) : Type 0 where
-  pub handlers : 1 + outgoing (weigh n) e.sends + kept_weight e.kept (weigh n (note m)) + rest_weight n e.here.rest + v ≤ weigh n (note m) + rest_weight n home.rest + stale_after e.freed e.kept v
-  pub sends : length e.sends + outgoing (price n) e.sends + kept_weight e.kept (price n (note m)) + rest_weight 1 e.here.rest ≤ price n (note m) + rest_weight 1 home.rest
+  pub handlers : 1 + outgoing (weigh n) e.sends + kept_weight e.kept
+      (weigh n (note m)) + rest_weight n e.here.rest + v ≤ weigh n
+      (note m) + rest_weight n home.rest + stale_after e.freed e.kept v
+  pub sends : length e.sends + outgoing (price n) e.sends + kept_weight e.kept
+      (price n (note m)) + rest_weight 1 e.here.rest ≤ price n (note m) + rest_weight 1 home.rest

@@ -14,7 +14,8 @@ use Rattle.teapot_meaning.specs.declared.state.Here.{Here as Place}
 use Rattle.dsm_runs.specs.Messages.{declared_chan}
 use Rattle.dsm_runs.specs.Setups.{start_tag}
 use Rattle.block_spots.specs.Cases as cases
-use Rattle.block_spots.specs.Cases.{DataRo, DataRw, Put, PutRo, NoRest, Here, Effect, Table, channel_of, State, HomeRw, HomeRo, HomeExcl, HomeAcks, HomePut, CacheInv, CacheRo, CacheRw, CacheWaitRo, CacheWaitRw}
+use Rattle.block_spots.specs.Cases.{DataRo, DataRw, Put, PutRo, NoRest, Here, Effect, Table, channel_of, State, HomeRw, HomeRo}
+use Rattle.block_spots.specs.Cases.{HomeExcl, HomeAcks, HomePut, CacheInv, CacheRo, CacheRw, CacheWaitRo, CacheWaitRw}
 use Rattle.block_spots.specs.Notes.{Note, NDataRo, NDataRw, NPut, NPutRo, Spot}
 use Rattle.block_spots.specs.Views.{seen_here, seen_kind, seen_message}
 use Rattle.stache_table.specs.Blocks.{kept_of, kind_of, seen_out, tag_at}
@@ -34,7 +35,8 @@ has_data Put = true
 has_data PutRo = true
 has_data _ = false
 
--- the message that a tree declares with this number is of the kind that the sketch sees, on its channel, with data where that has it
+-- the message that a tree declares with this number is of the kind that the sketch sees, on its channel, with data where that
+-- has it
 abbrev pub IsNumbered : Protocol → ℕ → Type 0
 IsNumbered tree n =
     (kind_of (seen_kind (number.Named n)) ≡ number.Named n)
@@ -79,14 +81,20 @@ pub record IsShown (o : Wording) (was : Place) (e : Ended) (f : Effect) : Type 0
 
 pub record Shows (t : Table) (o : Wording) : Type 0 where
   -- the words of its own for what is on channel 1, and for copies
-  pub down_is : (k n h : ℕ) (home : Here) (i : ℕ) (s : Spot) → AtCache o.standing n h home i s → Each (HasLength k) s.down → Each (o.IsDown k) s.down
-  pub up_is : (k n h : ℕ) (home : Here) (i : ℕ) (s : Spot) → AtCache o.standing n h home i s → Each (HasLength k) s.up → Each (o.IsUp k) s.up
-  pub copies_at : (n h : ℕ) (home : Here) (spots : ℕ → Spot) → o.Copies n h home spots → (i : ℕ) → i < n → i ≢ h → o.standing.Copies home (spots i)
-  pub copies_of : (n h : ℕ) (home : Here) (spots : ℕ → Spot) → ((i : ℕ) → i < n → i ≢ h → o.standing.Copies home (spots i)) → o.Copies n h home spots
+  pub down_is : (k n h : ℕ) (home : Here) (i : ℕ) (s : Spot) → AtCache o.standing n h home i s → Each (HasLength k) s.down →
+      Each (o.IsDown k) s.down
+  pub up_is : (k n h : ℕ) (home : Here) (i : ℕ) (s : Spot) → AtCache o.standing n h home i s → Each (HasLength k) s.up →
+      Each (o.IsUp k) s.up
+  pub copies_at : (n h : ℕ) (home : Here) (spots : ℕ → Spot) → o.Copies n h home spots → (i : ℕ) → i < n → i ≢ h →
+      o.standing.Copies home (spots i)
+  pub copies_of : (n h : ℕ) (home : Here) (spots : ℕ → Spot) → ((i : ℕ) → i < n → i ≢ h → o.standing.Copies home (spots i)) →
+      o.Copies n h home spots
   -- its messages
   pub numbers : (n : ℕ) → is_some (slice_get o.tree.messages n) ≡ true → IsNumbered o.tree n
   -- the table is the meaning
-  pub shown : (p : Protocol) (n : ℕ) (here : Place) (m : Message) (e : Ended) (f : Effect) → IsTreeOf o p → n ≤ 8 → o.IsPlaced here → Fits o.standing n here.home (seen_here o.reads here) → IsComing o.tree m here → Does p here m e → t n here.home here.me (seen_here o.reads here) (seen_message m) ≡ Some f → IsShown o here e f
+  pub shown : (p : Protocol) (n : ℕ) (here : Place) (m : Message) (e : Ended) (f : Effect) → IsTreeOf o p → n ≤ 8 →
+      o.IsPlaced here → Fits o.standing n here.home (seen_here o.reads here) → IsComing o.tree m here → Does p here m e →
+      t n here.home here.me (seen_here o.reads here) (seen_message m) ≡ Some f → IsShown o here e f
   pub placed_words : (here : Place) (ws : List ℕ) → o.IsPlaced here → o.IsPlaced (record here { words = ws })
   -- the start
   pub tag_line : (home : Bool) → start_tag (line_first o.tree home) ≡ tag_first home
@@ -106,7 +114,14 @@ pub record Scheme : Type 1 where
 
 -- over the sketch
 abbrev pub plan_of : Scheme → Plan
-plan_of scheme = record { table = scheme.table; words = scheme.wording.standing; sends = scheme.sends; says = scheme.says; home = scheme.home; cache = scheme.cache }
+plan_of scheme = record {
+  table = scheme.table;
+  words = scheme.wording.standing;
+  sends = scheme.sends;
+  says = scheme.says;
+  home = scheme.home;
+  cache = scheme.cache;
+}
 
 -- ---- what a table may ask of a block that fits
 

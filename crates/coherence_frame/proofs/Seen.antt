@@ -21,18 +21,33 @@ use Rattle.coherence_frame.proofs.Scheme.{Scheme, plan_of}
 module _ (scheme : Scheme) where
   -- ---- the law over the model
 
-  pub kept_coherent : (s : Setup) (g : World) (m : Machine) → IsSetup s → IsKept scheme.wording s g m → Coherent scheme.wording.standing (layout s) (block_slice s.shape.words m.words) (seen scheme.wording s g)
+  pub kept_coherent : (s : Setup) (g : World) (m : Machine) → IsSetup s → IsKept scheme.wording s g m →
+      Coherent scheme.wording.standing (layout s) (block_slice s.shape.words m.words) (seen scheme.wording s g)
   kept_coherent s g m is k = coherent_of scheme s g (block_slice s.shape.words m.words) is k.state k.coherent k.tied.words
 
   -- what is seen model.wording of a step from a kept state
-  pub step_shown : (s : Setup) (g : World) (e : Entry) (h : World) (m : Machine) → IsSetup s → IsKept scheme.wording s g m → Stepping s g e h → IsSeen scheme s m g e h
-  step_shown s g e h m is k r = step_seen scheme s is g m k.state k.coherent (kept_coherent s g m is k) e h r (step_keeps s g e h is k.state r)
+  pub step_shown : (s : Setup) (g : World) (e : Entry) (h : World) (m : Machine) → IsSetup s → IsKept scheme.wording s g m →
+      Stepping s g e h → IsSeen scheme s m g e h
+  step_shown s g e h m is k r = step_seen scheme s is g m k.state k.coherent (kept_coherent s g m is k) e h r
+      (step_keeps s g e h is k.state r)
 
   pub events_pay : EventsPay scheme.wording
   events_pay s g e h m is k r =
       let x : IsSeen scheme s m g e h = step_shown s g e h m is k r in
-      let c : Costs s.shape.nodes (handlers_of x.deed) (faults_of x.deed) (sends_of (plan_of scheme) (layout s) (seen scheme.wording s g) x.deed (seen scheme.wording s h) x.step) (potential scheme.wording s g) (potential scheme.wording s h) (to_send scheme.wording s g) (to_send scheme.wording s h) = step_costs (plan_of scheme) (layout s) (block_slice s.shape.words m.words) (seen scheme.wording s g) x.deed (seen scheme.wording s h) x.step (kept_coherent s g m is k) in
+      let c : Costs s.shape.nodes (handlers_of x.deed) (faults_of x.deed)
+      (sends_of (plan_of scheme) (layout s) (seen scheme.wording s g) x.deed (seen scheme.wording s h) x.step)
+      (potential scheme.wording s g) (potential scheme.wording s h) (to_send scheme.wording s g)
+      (to_send scheme.wording s h) = step_costs (plan_of scheme) (layout s) (block_slice s.shape.words m.words)
+      (seen scheme.wording s g) x.deed (seen scheme.wording s h) x.step (kept_coherent s g m is k) in
       record {
-        handlers = subst (λ (y : ℕ). y + potential scheme.wording s h ≤ potential scheme.wording s g + (3 * s.shape.nodes - 1) * is_fault_event e.act) x.counts.handlers (subst (λ (y : ℕ). handlers_of x.deed + potential scheme.wording s h ≤ potential scheme.wording s g + (3 * s.shape.nodes - 1) * y) x.counts.faults c.handlers);
-        sends = subst (λ (y : ℕ). y + to_send scheme.wording s h ≤ to_send scheme.wording s g + 2 * s.shape.nodes * is_fault_event e.act) x.counts.sends (subst (λ (y : ℕ). sends_of (plan_of scheme) (layout s) (seen scheme.wording s g) x.deed (seen scheme.wording s h) x.step + to_send scheme.wording s h ≤ to_send scheme.wording s g + 2 * s.shape.nodes * y) x.counts.faults c.sends);
+        handlers =
+            subst (λ (y : ℕ). y + potential scheme.wording s h ≤ potential scheme.wording s g + (3 * s.shape.nodes - 1)
+            * is_fault_event e.act) x.counts.handlers (subst
+            (λ (y : ℕ). handlers_of x.deed + potential scheme.wording s h ≤ potential scheme.wording s g
+            + (3 * s.shape.nodes - 1) * y) x.counts.faults c.handlers);
+        sends = subst (λ (y : ℕ). y + to_send scheme.wording s h ≤ to_send scheme.wording s g + 2 * s.shape.nodes
+            * is_fault_event e.act) x.counts.sends
+            (subst (λ (y : ℕ). sends_of (plan_of scheme) (layout s) (seen scheme.wording s g) x.deed
+            (seen scheme.wording s h) x.step + to_send scheme.wording s h ≤ to_send scheme.wording s g + 2 * s.shape.nodes * y)
+            x.counts.faults c.sends);
       }

@@ -1,5 +1,6 @@
 -- What a handler sends, and to whom.
-use Rattle.std.proofs.Common.{◌≡◌, ◌≢◌, ℕ, ◌<◌, Bool, true, false, List, [], ◌∷◌, ◌++◌, arith, refl, sym, ap, ◌∙◌, zero, suc, cond, ◌≤◌}
+use Rattle.std.proofs.Common.{◌≡◌, ◌≢◌, ℕ, ◌<◌, Bool, true, false, List, [], ◌∷◌, ◌++◌, arith, refl, sym, ap, ◌∙◌, zero, suc}
+use Rattle.std.proofs.Common.{cond, ◌≤◌}
 use Rattle.std.proofs.lemmas.Bool.Decides.{nat_tests}
 use Rattle.block_spots.specs.Cases.{Inv, Message, No, Effect}
 use Rattle.block_spots.specs.Notes.{notes, note}
@@ -10,7 +11,8 @@ use Rattle.tw_base.specs.declared.message.Chan.TheVariants.{Zero, One}
 use Rattle.coherence_frame.proofs.Views.{sent, notes_same}
 
 -- a wire before its front is taken
-pub front_note : (f t : ℕ) (c : Chan) (m : Message) (w w2 : Wires) → Takes f t c m w w2 → notes m.block (w f t c) ≡ note m ∷ notes m.block (w2 f t c)
+pub front_note : (f t : ℕ) (c : Chan) (m : Message) (w w2 : Wires) → Takes f t c m w w2 →
+    notes m.block (w f t c) ≡ note m ∷ notes m.block (w2 f t c)
 front_note f t c m w w2 a = ap (notes m.block) a.front ∙ notes_same m.block m _ refl
 
 -- all of these are for others than node h

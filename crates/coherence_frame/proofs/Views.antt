@@ -1,10 +1,15 @@
 -- What is sent to each sharer, by block, sender and wire.
-use Rattle.std.proofs.Common.{◌≡◌, ◌≢◌, ℕ, zero, suc, ◌<◌, ◌≤◌, Bool, true, false, List, [], ◌∷◌, ◌++◌, arith, refl, ap, ◌∙◌, inl, inr, ◌⊎◌, cond}
+use Rattle.std.proofs.Common.{◌≡◌, ◌≢◌, ℕ, zero, suc, ◌<◌, ◌≤◌, Bool, true, false, List, [], ◌∷◌, ◌++◌, arith, refl, ap, ◌∙◌}
+use Rattle.std.proofs.Common.{inl, inr, ◌⊎◌, cond}
 use Rattle.std.proofs.lemmas.List.{append-nil}
 use Rattle.std.proofs.lemmas.Bool.{cases_eq}
 use Rattle.block_spots.specs.Cases.{Inv}
 use Rattle.block_spots.specs.Notes.{Note, NInv}
-pub use Rattle.block_spots.proofs.Noted.{AllFrom, AllFrom-append, AllOf, AllOf-append, kept_notes-append, kept_notes-free, kept_notes-freed_if, kept_notes-with_kept_other, kept_notes_from_other, kept_notes_nil, kept_notes_other, kept_notes_same, notes-append, notes_all_other, notes_nil, notes_other, notes_same, sent-append, sent_from_other, sent_nil, sent_one, sent_one_chan, sent_one_past}
+pub use Rattle.block_spots.proofs.Noted.{AllFrom, AllFrom-append, AllOf, AllOf-append, kept_notes-append, kept_notes-free}
+pub use Rattle.block_spots.proofs.Noted.{kept_notes-freed_if, kept_notes-with_kept_other, kept_notes_from_other, kept_notes_nil}
+pub use Rattle.block_spots.proofs.Noted.{kept_notes_other, kept_notes_same, notes-append, notes_all_other, notes_nil}
+pub use Rattle.block_spots.proofs.Noted.{notes_other, notes_same, sent-append, sent_from_other, sent_nil, sent_one}
+pub use Rattle.block_spots.proofs.Noted.{sent_one_chan, sent_one_past}
 unfoldable pub use Rattle.block_spots.proofs.Noted.{sent}
 use Rattle.stache_table.specs.Handling.{inv_all, plain}
 use Rattle.tw_base.specs.declared.message.Chan.{Chan}
@@ -28,7 +33,9 @@ AllFrom-inv_all (suc n) s b me = AllFrom-append me _ _ (AllFrom-inv_all n s b me
 
 pub sent_inv_all_past : (n : ℕ) (s : ℕ → Bool) (b h j : ℕ) (c : Chan) → n ≤ j → sent b (inv_all n s b h) h j c ≡ []
 sent_inv_all_past zero s b h j c l = sent_nil b h j c
-sent_inv_all_past (suc n) s b h j c l = sent-append b h j c _ _ ∙ ap (λ x. x ++ sent b (cond (s n) (plain Inv b h n ∷ []) []) h j c) (sent_inv_all_past n s b h j c (omega arith)) ∙ last (s n)
+sent_inv_all_past (suc n) s b h j c l = sent-append b h j c _ _
+    ∙ ap (λ x. x ++ sent b (cond (s n) (plain Inv b h n ∷ []) []) h j c) (sent_inv_all_past n s b h j c (omega arith))
+    ∙ last (s n)
   where
     last : (t : Bool) → sent b (cond t (plain Inv b h n ∷ []) []) h j c ≡ []
     last true = sent_one_past b h j c (plain Inv b h n) (omega arith)
@@ -50,6 +57,9 @@ sent_inv_all (suc n) s b h j l = sent-append b h j One _ _ ∙ go (cases_eq j n)
     past true d = sent_one_past b h j One (plain Inv b h n) (omega arith)
     past false d = sent_nil b h j One
 
-    go : (j ≡ n) ⊎ (j ≢ n) → (j ≢ n → sent b (inv_all n s b h) h j One ≡ inv_if (s j)) → sent b (inv_all n s b h) h j One ++ sent b (cond (s n) (plain Inv b h n ∷ []) []) h j One ≡ inv_if (s j)
-    go (inl e) k = rw e (ap (λ x. x ++ sent b (cond (s n) (plain Inv b h n ∷ []) []) h n One) (sent_inv_all_past n s b h n One (omega arith)) ∙ last (s n))
+    go : (j ≡ n) ⊎ (j ≢ n) → (j ≢ n → sent b (inv_all n s b h) h j One ≡ inv_if (s j)) →
+        sent b (inv_all n s b h) h j One ++ sent b (cond (s n) (plain Inv b h n ∷ []) []) h j One ≡ inv_if (s j)
+    go (inl e) k =
+        rw e (ap (λ x. x ++ sent b (cond (s n) (plain Inv b h n ∷ []) []) h n One)
+        (sent_inv_all_past n s b h n One (omega arith)) ∙ last (s n))
     go (inr d) k = ap (λ x. sent b (inv_all n s b h) h j One ++ x) (past (s n) d) ∙ append-nil _ ∙ k d

@@ -4,15 +4,17 @@ use Rattle.tw_base.specs.Lists.{Each, how_many, sum_below}
 use Rattle.tw_base.specs.declared.message.Chan.{Chan}
 use Rattle.dsm_runs.specs.declared.mode.Mode.TheVariants as mode
 use Rattle.block_spots.specs.Cases.{State, HomeRw, HomeAcks, CacheWaitRo, CacheWaitRw, Rest, Here}
-use Rattle.block_spots.specs.Notes.{Spot, gets_ro, gets_rw, held_ro, held_rw, held_home, is_data_ro, is_data_rw, is_rd_fault, is_wr_fault, owes}
+use Rattle.block_spots.specs.Notes.{Spot, gets_ro, gets_rw, held_ro, held_rw, held_home, is_data_ro, is_data_rw, is_rd_fault}
+use Rattle.block_spots.specs.Notes.{is_wr_fault, owes}
 use Rattle.block_spots.specs.Sketches.{Layout, Local, Next, Loads, Stores, Sketch, home_at, spot_at}
-use Rattle.coherence_frame.specs.Words.{AllEligible, AllSentBy, Elsewhere, IsCacheState, IsFault, IsGet, IsSettled, IsWaiting, OneRequest, allows_load, allows_store, current_in, own_rd, own_wr, tag_of}
+use Rattle.coherence_frame.specs.Words.{AllEligible, AllSentBy, Elsewhere, IsCacheState, IsFault, IsGet, IsSettled, IsWaiting}
+use Rattle.coherence_frame.specs.Words.{OneRequest, allows_load, allows_store, current_in, own_rd, own_wr, tag_of}
 
 -- What a protocol says in words of its own, of a block among n nodes with home h.
 pub record Standing : Type 1 where
   pub RestFits : ℕ → ℕ → State → Rest → Type 0  -- which continuation a state has
   pub Infos : ℕ → ℕ → State → Here → Type 0  -- the directory, by the home's state
-  pub Stands : State → Here → ℕ → Spot → ℕ → ℕ → Type 0  -- cache i by the home's state, with so many requests for a copy and for the block
+  pub Stands : State → Here → ℕ → Spot → ℕ → ℕ → Type 0  -- cache i by the home's state, with its requests of either kind
   pub Copies : Here → Spot → Type 0  -- which words a copy has, at a cache and on the way
   pub HeldFor : State → Rest → Next → ℕ → Type 0  -- what the home's next instruction is while its rest is of its own fault
 
@@ -24,7 +26,8 @@ pub record AtCache (w : Standing) (n h : ℕ) (home : Here) (i : ℕ) (s : Spot)
   pub rest : w.RestFits n h s.state s.rest
   pub asks : Each IsGet s.ask
   pub keeps : Each IsGet s.kept
-  pub one : OneRequest s.state (gets_ro s + held_ro home.rest i) (how_many is_data_ro s.down) (gets_rw s + held_rw home.rest i) (how_many is_data_rw s.down)
+  pub one : OneRequest s.state (gets_ro s + held_ro home.rest i) (how_many is_data_ro s.down) (gets_rw s + held_rw home.rest i)
+      (how_many is_data_rw s.down)
   pub stands : w.Stands home.state home i s (gets_ro s + held_ro home.rest i) (gets_rw s + held_rw home.rest i)
   pub copies : w.Copies home s
 
@@ -54,7 +57,8 @@ pub record AtNode (w : Standing) (s : Layout) (l : Local) (i b : ℕ) : Type 0 w
   pub blocked : i ≢ s.home b → l.mode ≡ mode.Blocked b → IsWaiting (l.blocks b).state
   pub rd : i ≡ s.home b → 1 ≤ own_rd l i b → (l.mode ≡ mode.Blocked b) × (l.next ≡ Loads b)
   pub wr : i ≡ s.home b → 1 ≤ own_wr l i b → (l.mode ≡ mode.Blocked b) × (l.next ≡ Stores b)
-  pub held : i ≡ s.home b → 1 ≤ held_home (l.blocks b).rest → (l.mode ≡ mode.Blocked b) × w.HeldFor (l.blocks b).state (l.blocks b).rest l.next b
+  pub held : i ≡ s.home b → 1 ≤ held_home (l.blocks b).rest →
+      (l.mode ≡ mode.Blocked b) × w.HeldFor (l.blocks b).state (l.blocks b).rest l.next b
   pub blocked_home : i ≡ s.home b → l.mode ≡ mode.Blocked b → own_rd l i b + own_wr l i b + held_home (l.blocks b).rest ≡ 1
   pub woken_loads : l.mode ≡ mode.Woken → l.may ≡ true → l.next ≡ Loads b → allows_load (l.blocks b).tag
   pub woken_stores : l.mode ≡ mode.Woken → l.may ≡ true → l.next ≡ Stores b → allows_store (l.blocks b).tag

@@ -33,7 +33,8 @@ pub record Unspent (s : Setup) (g : World) : Type 0 where
   pub stamps : (f t : ℕ) (c : Chan) → Each (λ m. m.stamp < last_stamp) (g.wires f t c)
 
 abbrev pub NoBudgetIsSpent : Wording → Type 0
-NoBudgetIsSpent o = (s : Setup) (j : List Entry) (g : World) → IsSetup s → IsTreeOf o s.protocol → Runs s (start s) j g → Unspent s g
+NoBudgetIsSpent o = (s : Setup) (j : List Entry) (g : World) → IsSetup s → IsTreeOf o s.protocol → Runs s (start s) j g →
+    Unspent s g
 
 -- this act is this access, done
 abbrev pub IsDoneAccess : Setup → Bool → ℕ → Act → Type 0

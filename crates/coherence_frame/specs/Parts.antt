@@ -7,10 +7,12 @@ use Rattle.teapot_meaning.specs.declared.state.Here.{Here as Place}
 use Rattle.dsm_runs.specs.Setups.{Setup, home_of}
 use Rattle.dsm_runs.specs.Worlds.{World}
 use Rattle.block_spots.specs.Cases.{HomeRw, HomeAcks, Here}
-use Rattle.block_spots.specs.Notes.{Note, Spot, gets_ro, gets_rw, held_home, held_ro, held_rw, is_data_ro, is_data_rw, is_rd_fault, is_wr_fault, owes}
+use Rattle.block_spots.specs.Notes.{Note, Spot, gets_ro, gets_rw, held_home, held_ro, held_rw, is_data_ro, is_data_rw}
+use Rattle.block_spots.specs.Notes.{is_rd_fault, is_wr_fault, owes}
 use Rattle.block_spots.specs.Sketches.{Sketch, home_at, spot_at}
 use Rattle.block_spots.specs.Views.{Reads, layout, sketch}
-use Rattle.coherence_frame.specs.Words.{AllEligible, Elsewhere, IsCacheState, IsFault, IsGet, IsHomeState, IsSettled, OneRequest, current_in, tag_of}
+use Rattle.coherence_frame.specs.Words.{AllEligible, Elsewhere, IsCacheState, IsFault, IsGet, IsHomeState, IsSettled}
+use Rattle.coherence_frame.specs.Words.{OneRequest, current_in, tag_of}
 use Rattle.coherence_frame.specs.Coherent.{AtNode, Standing}
 
 -- What a protocol says of a state of the model in words of its own.
@@ -47,19 +49,22 @@ pub record Continuations (o : Wording) (g : World) (b n h : ℕ) (home : Here) (
 
 -- 3: what is on the way and deferred, and where
 pub record Places (o : Wording) (w n h : ℕ) (spots : ℕ → Spot) : Type 0 where
-  pub caches : EachCache n h (λ i. Each IsGet (spots i).ask × Each IsGet (spots i).kept × Each (o.IsDown w) (spots i).down × Each (o.IsUp w) (spots i).up)
+  pub caches : EachCache n h (λ i. Each IsGet (spots i).ask × Each IsGet (spots i).kept × Each (o.IsDown w) (spots i).down
+      × Each (o.IsUp w) (spots i).up)
   pub own : ((spots h).ask ≡ []) × ((spots h).down ≡ []) × ((spots h).up ≡ []) × Each IsFault (spots h).kept
 
 -- 4: one request for each cache that waits, one fault of the home
 pub record Requests (n h : ℕ) (home : Here) (spots : ℕ → Spot) : Type 0 where
-  pub caches : EachCache n h (λ i. OneRequest (spots i).state (gets_ro (spots i) + held_ro home.rest i) (how_many is_data_ro (spots i).down) (gets_rw (spots i) + held_rw home.rest i) (how_many is_data_rw (spots i).down))
+  pub caches : EachCache n h (λ i. OneRequest (spots i).state (gets_ro (spots i) + held_ro home.rest i)
+      (how_many is_data_ro (spots i).down) (gets_rw (spots i) + held_rw home.rest i) (how_many is_data_rw (spots i).down))
   pub own : how_many is_rd_fault (spots h).kept + how_many is_wr_fault (spots h).kept + held_home home.rest ≤ 1
   pub none : home.state ≡ HomeRw → (spots h).kept ≡ []
 
 -- 5: the row of the home's state
 pub record Rows (o : Wording) (n h : ℕ) (home : Here) (spots : ℕ → Spot) : Type 0 where
   pub infos : o.standing.Infos n h home.state home
-  pub caches : EachCache n h (λ i. o.standing.Stands home.state home i (spots i) (gets_ro (spots i) + held_ro home.rest i) (gets_rw (spots i) + held_rw home.rest i))
+  pub caches : EachCache n h (λ i. o.standing.Stands home.state home i (spots i) (gets_ro (spots i) + held_ro home.rest i)
+      (gets_rw (spots i) + held_rw home.rest i))
   pub acks : home.state ≡ HomeAcks → home.acks ≡ sum_below n (λ j. owes (spots j))
 
 -- ---- the parts of block b in state g

@@ -15,7 +15,8 @@ abbrev pub stale_of : Wording → Setup → World → ℕ → ℕ
 stale_of o s g b = how_many (is_stale_of b) ((seen o s g).locals (home_of s b)).deferred
 
 abbrev pub potential_of : Wording → Setup → World → ℕ → ℕ
-potential_of o s g b = sum_below s.shape.nodes (λ i. at_spot (weigh s.shape.nodes) (spots_seen o s g b i)) + rest_weight s.shape.nodes (home_seen o s g b).rest - stale_of o s g b
+potential_of o s g b = sum_below s.shape.nodes (λ i. at_spot (weigh s.shape.nodes) (spots_seen o s g b i)) + rest_weight
+    s.shape.nodes (home_seen o s g b).rest - stale_of o s g b
 
 abbrev pub potential : Wording → Setup → World → ℕ
 potential o s g = sum_below s.shape.blocks (potential_of o s g)
@@ -53,7 +54,8 @@ pub record Pays (o : Wording) (s : Setup) (g : World) (e : Entry) (h : World) : 
   pub sends : e.sends + to_send o s h ≤ to_send o s g + 2 * s.shape.nodes * is_fault_event e.act
 
 abbrev pub EventsPay : Wording → Type 0
-EventsPay o = (s : Setup) (g : World) (e : Entry) (h : World) (m : Machine) → IsSetup s → IsKept o s g m → Step s g e h → Pays o s g e h
+EventsPay o = (s : Setup) (g : World) (e : Entry) (h : World) (m : Machine) → IsSetup s → IsKept o s g m → Step s g e h →
+    Pays o s g e h
 
 pub record IsCounted (o : Wording) (s : Setup) (j : List Entry) (g : World) : Type 0 where
   pub handlers : handled_in j + potential o s g ≤ (3 * s.shape.nodes - 1) * faults_in j

@@ -2,7 +2,8 @@
 use Rattle.std.specs.Prelude.{ℕ, ◌+◌, ◌-◌, ◌*◌, ◌&&◌, not, nat_eq}
 use Rattle.tw_base.specs.Lists.{how_many, one_if}
 use Rattle.block_spots.specs.Cases.{Rest, NoRest, OfCache}
-use Rattle.block_spots.specs.Notes.{Note, NRdFault, NWrFault, NGetRo, NGetRw, NInv, NAck, NRecall, NRecallRo, NDataRo, NDataRw, NPut, NPutRo, Spot, Waiting}
+use Rattle.block_spots.specs.Notes.{Note, NRdFault, NWrFault, NGetRo, NGetRw, NInv, NAck, NRecall, NRecallRo, NDataRo, NDataRw}
+use Rattle.block_spots.specs.Notes.{NPut, NPutRo, Spot, Waiting}
 
 -- ---- handler events to come
 

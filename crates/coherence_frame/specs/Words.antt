@@ -6,8 +6,10 @@ use Rattle.tw_base.specs.declared.message.Chan.TheVariants.{Zero}
 use Rattle.tw_base.specs.declared.value.Tag.{Tag}
 use Rattle.tw_base.specs.declared.value.Tag.TheVariants.{Invalid, ReadOnly, ReadWrite}
 use Rattle.block_tags.specs.Copies.{permits}
-use Rattle.block_spots.specs.Cases.{State, HomeRw, HomeRo, HomeExcl, HomeAcks, HomePut, CacheInv, CacheRo, CacheRw, CacheWaitRo, CacheWaitRw, Here, Message}
-use Rattle.block_spots.specs.Notes.{Note, NRdFault, NWrFault, NGetRo, NGetRw, NInv, NAck, NRecall, NDataRo, NDataRw, NPut, NPutRo, Spot, Waiting, is_rd_fault, is_wr_fault, kept_notes, notes}
+use Rattle.block_spots.specs.Cases.{State, HomeRw, HomeRo, HomeExcl, HomeAcks, HomePut, CacheInv, CacheRo, CacheRw, CacheWaitRo}
+use Rattle.block_spots.specs.Cases.{CacheWaitRw, Here, Message}
+use Rattle.block_spots.specs.Notes.{Note, NRdFault, NWrFault, NGetRo, NGetRw, NInv, NAck, NRecall, NDataRo, NDataRw, NPut}
+use Rattle.block_spots.specs.Notes.{NPutRo, Spot, Waiting, is_rd_fault, is_wr_fault, kept_notes, notes}
 use Rattle.block_spots.specs.Sketches.{Layout, Local, Sketch}
 
 -- ---- what may stand on which wire

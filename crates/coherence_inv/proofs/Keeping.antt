@@ -14,7 +14,8 @@ events_keep = frame.events_keep scheme
 pub starts_kept : StartsKept
 starts_kept = frame.starts_kept scheme
 
-pub goes_on : (s : Setup) (es : List Entry) (g h : World) (m : Machine) → IsSetup s → IsKept s g m → Runs s g es h → frame.GoesOn scheme s m es h
+pub goes_on : (s : Setup) (es : List Entry) (g h : World) (m : Machine) → IsSetup s → IsKept s g m → Runs s g es h →
+    frame.GoesOn scheme s m es h
 goes_on = frame.goes_on scheme
 
 pub runs_are_explained : RunsAreExplained

@@ -1,11 +1,13 @@
 -- The table is the meaning: a handler that ends as the table says leaves the block whole.
-use Rattle.std.proofs.Common.{true, false, ◌≡◌, ℕ, zero, suc, ◌≤◌, List, Option, Some, None, arith, refl, ◌∙◌, sym, ap, subst, length}
+use Rattle.std.proofs.Common.{true, false, ◌≡◌, ℕ, zero, suc, ◌≤◌, List, Option, Some, None, arith, refl, ◌∙◌, sym, ap, subst}
+use Rattle.std.proofs.Common.{length}
 use Rattle.std.specs.Prelude.{is_some, slice_get}
 use Rattle.tw_base.specs.declared.value.Data.{Data}
-use Rattle.block_spots.specs.Cases.{State, HomeRw, HomeRo, HomeExcl, HomeAcks, HomePut, CacheInv, CacheRo, CacheRw, CacheWaitRo, CacheWaitRw, Rest, NoRest, OfHome, OfCache, OfRo, OfRw, Effect}
+use Rattle.block_spots.specs.Cases.{State, HomeRw, HomeRo, HomeExcl, HomeAcks, HomePut, CacheInv, CacheRo, CacheRw, CacheWaitRo}
+use Rattle.block_spots.specs.Cases.{CacheWaitRw, Rest, NoRest, OfHome, OfCache, OfRo, OfRw, Effect}
 use Rattle.block_spots.specs.Views.{seen_kind, seen_message, seen_here}
 use Rattle.stache_tree.specs.Tree.{stache, IsStache}
-use Rattle.stache_table.specs.Blocks.{BlockFits, CarriesIf, read, tag_at, Block, IsBlock, Shows, here_of, reads, seen, LeftFits}
+use Rattle.stache_table.specs.Blocks.{BlockFits, CarriesIf, read, Block, IsBlock, Shows, here_of, reads, seen, LeftFits}
 use Rattle.coherence_inv.specs.Coherent.{RestFits, standing}
 use Rattle.tw_base.specs.declared.message.Kind.{Kind}
 use Rattle.tw_base.specs.declared.message.Message.{Message}
@@ -42,7 +44,13 @@ rest_fits n h CacheRw NoRest few f = tt
 rest_fits n h x r few f = absurd (grind arith)
 
 fits_block : (n h : ℕ) (here : Place) → n ≤ 8 → IsPlaced here → Fits standing n h (seen_here reads here) → BlockFits (read here)
-fits_block n h here few p f = record { rest = rest_fits n h _ _ few f.rest; left = p.left; tag = f.tag ∙ tag_fits _; eight = p.eight }
+fits_block n h here few p f = record {
+  rest = rest_fits n h _ _ few f.rest;
+  left = p.left;
+  tag = f.tag
+      ∙ tag_fits _;
+  eight = p.eight;
+}
 
 -- ---- messages
 
@@ -58,7 +66,8 @@ numbers (suc (suc (suc (suc (suc (suc zero)))))) e = (refl, refl, refl)
 numbers (suc (suc (suc (suc (suc (suc (suc zero))))))) e = (refl, refl, refl)
 numbers (suc (suc (suc (suc (suc (suc (suc (suc n)))))))) e = absurd cc
 
-carries_if : (n : ℕ) (o : Option Data) → is_some (slice_get stache.messages n) ≡ true → is_some o ≡ has_data (seen_kind (number.Named n)) → CarriesIf (seen_kind (number.Named n)) o
+carries_if : (n : ℕ) (o : Option Data) → is_some (slice_get stache.messages n) ≡ true →
+    is_some o ≡ has_data (seen_kind (number.Named n)) → CarriesIf (seen_kind (number.Named n)) o
 carries_if zero (Some d) known e = absurd cc
 carries_if zero None known e = tt
 carries_if (suc zero) (Some d) known e = absurd cc
@@ -94,7 +103,9 @@ come m here c = record { kind = c.kind; block = c.block; from = c.from; carries 
 -- a block that is built as one at this place is one at its own
 built_there : (here : Place) (me home b : ℕ) (y : Block) → bare_here here ≡ here_of me home b y → BlockFits y → IsBlock here y
 built_there here me home b y e fits = record {
-  block = e ∙ ap (λ n. here_of n home b y) (sym (ap (λ h. h.me) e)) ∙ ap (λ n. here_of here.me n b y) (sym (ap (λ h. h.home) e)) ∙ ap (λ n. here_of here.me here.home n y) (sym (ap (λ h. h.block) e));
+  block = e ∙ ap (λ n. here_of n home b y) (sym (ap (λ h. h.me) e))
+      ∙ ap (λ n. here_of here.me n b y) (sym (ap (λ h. h.home) e))
+      ∙ ap (λ n. here_of here.me here.home n y) (sym (ap (λ h. h.block) e));
   fits = fits;
 }
 
@@ -113,13 +124,21 @@ placed_block here x is = record {
 
 -- with other words
 pub placed_words : (here : Place) (ws : List ℕ) → IsPlaced here → IsPlaced (record here { words = ws })
-placed_words here ws p = record { literal = ap (λ (h : Place). record h { words = ws }) p.literal; left = p.left; eight = p.eight }
+placed_words here ws p = record {
+  literal = ap (λ (h : Place). record h { words = ws }) p.literal;
+  left = p.left;
+  eight = p.eight;
+}
 
-pub shown : (p : Protocol) (n : ℕ) (here : Place) (m : Message) (e : Ended) (f : Effect) → IsStache p → n ≤ 8 → IsPlaced here → Fits standing n here.home (seen_here reads here) → IsComing stache m here → Does p here m e
+pub shown : (p : Protocol) (n : ℕ) (here : Place) (m : Message) (e : Ended) (f : Effect) → IsStache p → n ≤ 8 → IsPlaced here →
+    Fits standing n here.home (seen_here reads here) → IsComing stache m here → Does p here m e
     → handle_in n here.home here.me (seen_here reads here) (seen_message m) ≡ Some f → IsShown wording here e f
 shown p n here m e f is few placed fits comes does row =
-    let s : Shows here.block here.me here.home (read here) (bare_ended e) (Some f) = subst (λ (o : Option Effect). Shows here.block here.me here.home (read here) (bare_ended e) o) row
-    (table_is_the_meaning p here (read here) m (seen_kind m.kind) e n is (record { block = placed.literal; fits = fits_block n here.home here few placed fits }) (come m here comes) few (few_sharers standing says n here.home (seen_here reads here) fits) does) in
+    let s : Shows here.block here.me here.home (read here) (bare_ended e) (Some f) =
+    subst (λ (o : Option Effect). Shows here.block here.me here.home (read here) (bare_ended e) o) row
+    (table_is_the_meaning p here (read here) m (seen_kind m.kind) e n is
+    (record { block = placed.literal; fits = fits_block n here.home here few placed fits }) (come m here comes) few
+    (few_sharers standing says n here.home (seen_here reads here) fits) does) in
     let there : IsBlock e.here s.0 = built_there e.here _ _ _ s.0 s.1.here s.1.fits in
     record {
       end = s.1.end;

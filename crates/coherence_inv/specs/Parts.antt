@@ -39,7 +39,15 @@ pub record Copies (n h : ℕ) (home : Here) (spots : ℕ → Spot) : Type 0 wher
   pub coming : EachCache n h (λ i. InHomeRoOrAcks home.state → Each (HasWords home.words) (spots i).down)
 
 abbrev pub wording : Wording
-wording = record { standing = standing; tree = stache; reads = reads; IsPlaced = IsPlaced; IsDown = IsDown; IsUp = IsUp; Copies = Copies }
+wording = record {
+  standing = standing;
+  tree = stache;
+  reads = reads;
+  IsPlaced = IsPlaced;
+  IsDown = IsDown;
+  IsUp = IsUp;
+  Copies = Copies;
+}
 
 -- ---- the parts of block b in state g
 

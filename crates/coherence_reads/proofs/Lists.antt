@@ -1,5 +1,6 @@
 -- A list with one more note.
-use Rattle.std.proofs.Common.{◌≡◌, ◌≤◌, ◌+◌, ℕ, zero, suc, Bool, true, false, ◌&&◌, List, [], ◌∷◌, ◌++◌, length, refl, sym, ◌∙◌, arith, length-append}
+use Rattle.std.proofs.Common.{◌≡◌, ◌≤◌, ◌+◌, ℕ, zero, suc, Bool, true, false, ◌&&◌, List, [], ◌∷◌, ◌++◌, length, refl, sym, ◌∙◌}
+use Rattle.std.proofs.Common.{arith, length-append}
 use Rattle.std.specs.Bool.{Decides}
 use Rattle.tw_base.specs.Lists.{Each, how_many}
 use Rattle.block_spots.specs.Cases as cases
@@ -39,7 +40,8 @@ both_hold true true P Q h k = (λ e. (h.0 refl, k.0 refl), λ e. refl)
 both_hold true false P Q h k = (λ e. absurd cc, λ e. absurd (let f = k.1 e.1 in cc))
 both_hold false b P Q h k = (λ e. absurd cc, λ e. absurd (let f = h.1 e.0 in cc))
 
-pub each_more : (P : Note → Type 0) (ns : List Note) (x : Note) (a b r : Bool) → Decides a (Each P ns) → Decides b (P x) → r ≡ a && b → Decides r (Each P (ns ++ x ∷ []))
+pub each_more : (P : Note → Type 0) (ns : List Note) (x : Note) (a b r : Bool) → Decides a (Each P ns) → Decides b (P x) →
+    r ≡ a && b → Decides r (Each P (ns ++ x ∷ []))
 each_more P ns x a b r h k e =
     let d = both_hold a b (Each P ns) (P x) h k in
     (λ y. let p = d.0 (sym e ∙ y) in each_end P ns x p.0 p.1, λ y. e ∙ d.1 (each_before P ns x y))

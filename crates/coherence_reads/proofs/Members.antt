@@ -20,7 +20,8 @@ none_if false h = refl
 
 pub members_are_all : (s : List Bool) (n : ℕ) → n ≤ 8 → ((k : ℕ) → has s k ≡ true → k < n) → members n (has s) ≡ count s
 unfolding members count
-members_are_all s n l h = sym (sum_past (λ k. one_if (has s k)) n 8 l (λ k g. none_if (has s k) (λ e. let m : k < n = h k e in absurd (omega arith))))
+members_are_all s n l h =
+    sym (sum_past (λ k. one_if (has s k)) n 8 l (λ k g. none_if (has s k) (λ e. let m : k < n = h k e in absurd (omega arith))))
 
 -- a set of n nodes has members below n alone
 pub member_below : (s : List Bool) (n k : ℕ) → length s ≡ n → has s k ≡ true → k < n

@@ -2,7 +2,8 @@
 use Rattle.std.proofs.Common.{◌≡◌, ℕ, Bool, ◌&&◌, List, [], ◌∷◌}
 use Rattle.std.specs.Bool.{Decides}
 use Rattle.tw_base.specs.Lists.{Each}
-use Rattle.block_spots.specs.Notes.{Note, NRdFault, NWrFault, NGetRo, NGetRw, NDataRo, NDataRw, NPut, NInv, NAck, NRecall, NRecallRo, NPutRo}
+use Rattle.block_spots.specs.Notes.{Note, NRdFault, NWrFault, NGetRo, NGetRw, NDataRo, NDataRw, NPut, NInv, NAck, NRecall}
+use Rattle.block_spots.specs.Notes.{NRecallRo, NPutRo}
 use Rattle.coherence_inv.specs.Parts.{IsDown, IsUp}
 use Rattle.stache_d_inv.specs.Parts as parts_d
 use Rattle.coherence_reads.specs.Notes.{IsOfStache}
@@ -74,14 +75,17 @@ each_back P Q R f (n ∷ ns) r =
     let p = f n r.0 in let more = each_back P Q R f ns r.1 in
     ((p.0, more.0), (p.1, more.1))
 
-of_stache : (P Q R : Note → Type 0) → ((n : Note) → P n → Q n → R n) → ((n : Note) → R n → P n × Q n) → (ns : List Note) (a b r : Bool) →
+of_stache : (P Q R : Note → Type 0) → ((n : Note) → P n → Q n → R n) → ((n : Note) → R n → P n × Q n) →
+    (ns : List Note) (a b r : Bool) →
     Decides a (Each P ns) → Decides b (Each Q ns) → r ≡ a && b → Decides r (Each R ns)
 of_stache P Q R f g ns a b r h k e =
     let d = both_so a b r (Each P ns) (Each Q ns) h k e in
     (λ y. let p = d.0 y in each_as P Q R f ns p.0 p.1, λ y. d.1 (each_back P Q R g ns y))
 
-pub down_of_stache : (w : ℕ) (ns : List Note) (a b r : Bool) → Decides a (Each (parts_d.IsDown w) ns) → Decides b (Each IsOfStache ns) → r ≡ a && b → Decides r (Each (IsDown w) ns)
+pub down_of_stache : (w : ℕ) (ns : List Note) (a b r : Bool) → Decides a (Each (parts_d.IsDown w) ns) →
+    Decides b (Each IsOfStache ns) → r ≡ a && b → Decides r (Each (IsDown w) ns)
 down_of_stache w = of_stache (parts_d.IsDown w) IsOfStache (IsDown w) (down_as w) (down_back w)
 
-pub up_of_stache : (w : ℕ) (ns : List Note) (a b r : Bool) → Decides a (Each (parts_d.IsUp w) ns) → Decides b (Each IsOfStache ns) → r ≡ a && b → Decides r (Each (IsUp w) ns)
+pub up_of_stache : (w : ℕ) (ns : List Note) (a b r : Bool) → Decides a (Each (parts_d.IsUp w) ns) →
+    Decides b (Each IsOfStache ns) → r ≡ a && b → Decides r (Each (IsUp w) ns)
 up_of_stache w = of_stache (parts_d.IsUp w) IsOfStache (IsUp w) (up_as w) (up_back w)

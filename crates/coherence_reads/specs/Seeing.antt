@@ -4,7 +4,8 @@ use Rattle.std.specs.Bool.{Decides}
 use Rattle.tw_base.specs.Lists.{Each, how_many}
 use Rattle.tw_base.specs.NodeSets.{has}
 use Rattle.block_spots.specs.Cases.{CacheRo, Here, HomeRw}
-use Rattle.block_spots.specs.Notes.{Spot, gets_ro, gets_rw, held_home, held_ro, held_rw, is_data_ro, is_data_rw, is_rd_fault, is_wr_fault}
+use Rattle.block_spots.specs.Notes.{Spot, gets_ro, gets_rw, held_home, held_ro, held_rw, is_data_ro, is_data_rw, is_rd_fault}
+use Rattle.block_spots.specs.Notes.{is_wr_fault}
 use Rattle.coherence_inv.specs.Coherent.{HasWords, InHomeRoOrAcks, IsCacheState, IsFault, IsGet, OneRequest, tag_of}
 use Rattle.coherence_inv.specs.Parts.{Which, First, Second, Third, Fourth, Fifth, Sixth, Seventh}
 use Rattle.stache_d_inv.specs.Parts as parts_d
@@ -29,7 +30,8 @@ pub record IsSeen (x : Seen) (s : Spot) (n k : ℕ) : Type 0 where
   pub down : IsFew x.down s.down
   pub up : IsFew x.up s.up
 
--- what the home has of cache i: whether it is a sharer, whether the owner, its requests that are held, and what the home waits for
+-- what the home has of cache i: whether it is a sharer, whether the owner, its requests that are held, and what the home waits
+-- for
 pub record IsOfHome (x : OfHome) (home : Here) (i : ℕ) : Type 0 where
   pub shares : home.sharers i ≡ x.member
   pub owns : Decides x.owner (i ≡ home.owner)
@@ -64,9 +66,12 @@ pub record IsSpot (w : ℕ) (home : List ℕ) (x : At) (s : Spot) : Type 0 where
 abbrev pub CacheFits : Directory → Which → ℕ → ℕ → ℕ → Here → ℕ → Spot → Type 0
 CacheFits d First w n h home i s = IsCacheState s.state × (s.tag ≡ tag_of s.state)
 CacheFits d Second w n h home i s = RestFitsUnder d n h s.state s.rest
-CacheFits d Third w n h home i s = Each IsGet s.ask × Each IsGet s.kept × Each (IsDownUnder d w) s.down × Each (IsUpUnder d w) s.up
-CacheFits d Fourth w n h home i s = OneRequest s.state (gets_ro s + held_ro home.rest i) (how_many is_data_ro s.down) (gets_rw s + held_rw home.rest i) (how_many is_data_rw s.down)
-CacheFits d Fifth w n h home i s = StandsUnder d home.state home i s (gets_ro s + held_ro home.rest i) (gets_rw s + held_rw home.rest i)
+CacheFits d Third w n h home i s = Each IsGet s.ask × Each IsGet s.kept × Each (IsDownUnder d w) s.down
+    × Each (IsUpUnder d w) s.up
+CacheFits d Fourth w n h home i s = OneRequest s.state (gets_ro s + held_ro home.rest i) (how_many is_data_ro s.down)
+    (gets_rw s + held_rw home.rest i) (how_many is_data_rw s.down)
+CacheFits d Fifth w n h home i s = StandsUnder d home.state home i s (gets_ro s + held_ro home.rest i)
+    (gets_rw s + held_rw home.rest i)
 CacheFits d Sixth w n h home i s =
     (InHomeRoOrAcks home.state → s.state ≡ CacheRo → s.words ≡ home.words)
     × (InHomeRoOrAcks home.state → Each (HasWords home.words) s.down)

@@ -27,7 +27,8 @@ fn with_one(
     count: u8,
     words: Data,
 ) -> Summary
-    ensures { (k : ℕ) (ws : List Held) → slice_get ws k ≡ Some waiting.now → IsSummary count words so_far (kept_to block node k ws) → IsSummary count words result (kept_to block node (k + 1) ws) }
+    ensures { (k : ℕ) (ws : List Held) → slice_get ws k ≡ Some waiting.now →
+        IsSummary count words so_far (kept_to block node k ws) → IsSummary count words result (kept_to block node (k + 1) ws) }
 {
     if is_of(waiting, block, node) {
         so_far.and(&note_of(&waiting.message), count, words)

@@ -23,7 +23,8 @@ use tw_base::{Data, NodeId};
 
 /// The GET_ROs of a cache on the way, deferred or held.
 fn asks_ro(x: &Spot, home: &Home, node: NodeId) -> Count
-    ensures { (w : ℕ) (ws : List ℕ) (s : marks.Spot) → IsSpot w ws x.now s → IsCount result (marks.gets_ro s + marks.held_ro (here_in home.now).rest node) }
+    ensures { (w : ℕ) (ws : List ℕ) (s : marks.Spot) → IsSpot w ws x.now s →
+        IsCount result (marks.gets_ro s + marks.held_ro (here_in home.now).rest node) }
 {
     x.ask
         .get_ro
@@ -40,13 +41,16 @@ fn gets_rw(x: &Spot) -> Count
 
 /// The GET_RWs of a cache on the way, deferred or held.
 fn asks_rw(x: &Spot, home: &Home, node: NodeId) -> Count
-    ensures { (w : ℕ) (ws : List ℕ) (s : marks.Spot) → IsSpot w ws x.now s → IsCount result (marks.gets_rw s + marks.held_rw (here_in home.now).rest node) }
+    ensures { (w : ℕ) (ws : List ℕ) (s : marks.Spot) → IsSpot w ws x.now s →
+        IsCount result (marks.gets_rw s + marks.held_rw (here_in home.now).rest node) }
 {
     gets_rw(x).plus(held_rw(home.whose, node))
 }
 
 fn seen(x: &Spot, home: &Home, node: NodeId) -> Seen
-    ensures { (w : ℕ) (ws : List ℕ) (s : marks.Spot) → IsSpot w ws x.now s → IsSeen result s (marks.gets_ro s + marks.held_ro (here_in home.now).rest node) (marks.gets_rw s + marks.held_rw (here_in home.now).rest node) }
+    ensures { (w : ℕ) (ws : List ℕ) (s : marks.Spot) → IsSpot w ws x.now s →
+        IsSeen result s (marks.gets_ro s + marks.held_ro (here_in home.now).rest node)
+        (marks.gets_rw s + marks.held_rw (here_in home.now).rest node) }
 {
     Seen {
         place: x.place,
@@ -71,20 +75,23 @@ fn of_home(home: &Home, node: NodeId) -> OfHome
 }
 
 fn has_tag(x: &Spot) -> bool
-    ensures { (d : Protocol) (w n h i : ℕ) (ws : List ℕ) (home : Here) (s : marks.Spot) → IsSpot w ws x.now s → Decides result (CacheFits d First w n h home i s) }
+    ensures { (d : Protocol) (w n h i : ℕ) (ws : List ℕ) (home : Here) (s : marks.Spot) → IsSpot w ws x.now s →
+        Decides result (CacheFits d First w n h home i s) }
 {
     is_cache(x.place) && x.tag == tag_of(x.place)
 }
 
 fn has_rest(directory: Directory, x: &Spot, nodes: u8, home: NodeId) -> bool
-    ensures { (w i : ℕ) (ws : List ℕ) (at : Here) (s : marks.Spot) → IsSpot w ws x.now s → Decides result (CacheFits directory Second w nodes home at i s) }
+    ensures { (w i : ℕ) (ws : List ℕ) (at : Here) (s : marks.Spot) → IsSpot w ws x.now s →
+        Decides result (CacheFits directory Second w nodes home at i s) }
 {
     rest_fits(directory, nodes, home, x.place, x.whose)
 }
 
 /// Whether each note is one that the protocol's homes send to caches on channel 1.
 fn are_down(directory: Directory, notes: &Summary) -> bool
-    ensures { (w : ℕ) (ws : List ℕ) (ns : List marks.Note) → IsSummary w ws notes.now ns → Decides result (Each (IsDownUnder directory w) ns) }
+    ensures { (w : ℕ) (ws : List ℕ) (ns : List marks.Note) → IsSummary w ws notes.now ns →
+        Decides result (Each (IsDownUnder directory w) ns) }
 {
     match directory {
         Directory::Stache => both(notes.downs, notes.shared),
@@ -94,7 +101,8 @@ fn are_down(directory: Directory, notes: &Summary) -> bool
 
 /// Whether each note is one that the protocol's caches send to homes on channel 1.
 fn are_up(directory: Directory, notes: &Summary) -> bool
-    ensures { (w : ℕ) (ws : List ℕ) (ns : List marks.Note) → IsSummary w ws notes.now ns → Decides result (Each (IsUpUnder directory w) ns) }
+    ensures { (w : ℕ) (ws : List ℕ) (ns : List marks.Note) → IsSummary w ws notes.now ns →
+        Decides result (Each (IsUpUnder directory w) ns) }
 {
     match directory {
         Directory::Stache => both(notes.ups, notes.shared),
@@ -103,7 +111,8 @@ fn are_up(directory: Directory, notes: &Summary) -> bool
 }
 
 fn has_its_notes(directory: Directory, x: &Spot) -> bool
-    ensures { (w n h i : ℕ) (ws : List ℕ) (home : Here) (s : marks.Spot) → IsSpot w ws x.now s → Decides result (CacheFits directory Third w n h home i s) }
+    ensures { (w n h i : ℕ) (ws : List ℕ) (home : Here) (s : marks.Spot) → IsSpot w ws x.now s →
+        Decides result (CacheFits directory Third w n h home i s) }
 {
     let requests = both(x.ask.gets, x.kept.gets);
     both(
@@ -113,7 +122,8 @@ fn has_its_notes(directory: Directory, x: &Spot) -> bool
 }
 
 fn has_one_request(x: &Spot, home: &Home, node: NodeId) -> bool
-    ensures { (d : Protocol) (w n h : ℕ) (ws : List ℕ) (s : marks.Spot) → IsSpot w ws x.now s → Decides result (CacheFits d Fourth w n h (here_in home.now) node s) }
+    ensures { (d : Protocol) (w n h : ℕ) (ws : List ℕ) (s : marks.Spot) → IsSpot w ws x.now s →
+        Decides result (CacheFits d Fourth w n h (here_in home.now) node s) }
 {
     one_request(
         x.place,
@@ -123,7 +133,8 @@ fn has_one_request(x: &Spot, home: &Home, node: NodeId) -> bool
 }
 
 fn stands_so(directory: Directory, x: &Spot, home: &Home, node: NodeId) -> bool
-    ensures { (w n h : ℕ) (ws : List ℕ) (s : marks.Spot) → IsSpot w ws x.now s → Decides result (CacheFits directory Fifth w n h (here_in home.now) node s) }
+    ensures { (w n h : ℕ) (ws : List ℕ) (s : marks.Spot) → IsSpot w ws x.now s →
+        Decides result (CacheFits directory Fifth w n h (here_in home.now) node s) }
 {
     stands(
         directory,
@@ -141,7 +152,8 @@ fn are_same(words: Data, others: Data) -> bool
 
 /// Whether a copy that the home may share has the home's words.
 fn has_its_words(x: &Spot, home: &Home) -> bool
-    ensures { (w : ℕ) (ws : List ℕ) (s : marks.Spot) → IsSpot w ws x.now s → Decides result (InHomeRoOrAcks (here_in home.now).state → s.state ≡ CacheRo → s.words ≡ (here_in home.now).words) }
+    ensures { (w : ℕ) (ws : List ℕ) (s : marks.Spot) → IsSpot w ws x.now s →
+        Decides result (InHomeRoOrAcks (here_in home.now).state → s.state ≡ CacheRo → s.words ≡ (here_in home.now).words) }
 {
     if !is_shared(home.place) {
         return true;
@@ -154,7 +166,8 @@ fn has_its_words(x: &Spot, home: &Home) -> bool
 
 /// Whether a copy on the way, which the home may share, has the home's words.
 fn brings_its_words(x: &Spot, home: &Home) -> bool
-    ensures { (w : ℕ) (s : marks.Spot) → IsSpot w home.now.words x.now s → Decides result (InHomeRoOrAcks (here_in home.now).state → Each (HasWords (here_in home.now).words) s.down) }
+    ensures { (w : ℕ) (s : marks.Spot) → IsSpot w home.now.words x.now s →
+        Decides result (InHomeRoOrAcks (here_in home.now).state → Each (HasWords (here_in home.now).words) s.down) }
 {
     if !is_shared(home.place) {
         return true;
@@ -164,7 +177,8 @@ fn brings_its_words(x: &Spot, home: &Home) -> bool
 
 /// Whether a copy that an owner of Stache_D keeps has the words that it answered.
 fn answered_its_words(x: &Spot, home: &Home) -> bool
-    ensures { (w : ℕ) (ws : List ℕ) (s : marks.Spot) → IsSpot w ws x.now s → Decides result (AnsweredUnder Protocol.StacheD (here_in home.now) s) }
+    ensures { (w : ℕ) (ws : List ℕ) (s : marks.Spot) → IsSpot w ws x.now s →
+        Decides result (AnsweredUnder Protocol.StacheD (here_in home.now) s) }
 {
     match (home.place, x.place) {
         (Place::HomePut, Place::CacheRo) => x.up.answered,
@@ -173,7 +187,8 @@ fn answered_its_words(x: &Spot, home: &Home) -> bool
 }
 
 fn has_answered(directory: Directory, x: &Spot, home: &Home) -> bool
-    ensures { (w : ℕ) (ws : List ℕ) (s : marks.Spot) → IsSpot w ws x.now s → Decides result (AnsweredUnder directory (here_in home.now) s) }
+    ensures { (w : ℕ) (ws : List ℕ) (s : marks.Spot) → IsSpot w ws x.now s →
+        Decides result (AnsweredUnder directory (here_in home.now) s) }
 {
     match directory {
         Directory::Stache => true,
@@ -182,7 +197,8 @@ fn has_answered(directory: Directory, x: &Spot, home: &Home) -> bool
 }
 
 fn has_copy(directory: Directory, x: &Spot, home: &Home) -> bool
-    ensures { (w n h i : ℕ) (s : marks.Spot) → IsSpot w home.now.words x.now s → Decides result (CacheFits directory Sixth w n h (here_in home.now) i s) }
+    ensures { (w n h i : ℕ) (s : marks.Spot) → IsSpot w home.now.words x.now s →
+        Decides result (CacheFits directory Sixth w n h (here_in home.now) i s) }
 {
     let coming = both(brings_its_words(x, home), has_answered(directory, x, home));
     both(has_its_words(x, home), coming)
@@ -198,7 +214,8 @@ pub fn cache_fits(
     home_node: NodeId,
     node: NodeId,
 ) -> bool
-    ensures { (w : ℕ) (s : marks.Spot) → IsSpot w home.now.words x.now s → Decides result (CacheFits directory (which part) w nodes home_node (here_in home.now) node s) }
+    ensures { (w : ℕ) (s : marks.Spot) → IsSpot w home.now.words x.now s →
+        Decides result (CacheFits directory (which part) w nodes home_node (here_in home.now) node s) }
 {
     match part {
         Part::First => has_tag(x),

@@ -1,6 +1,6 @@
-//! What the decider of coherence reads off one block, one message and one list of messages, under Stache and under Stache_D: which state and
-//! continuation a block has, what a message says, and whether a cache stands as the home's state asks. A further protocol gives its words in
-//! `specs/Directories` and a case where a function takes a `Directory`.
+//! What the decider of coherence reads off one block, one message and one list of messages, under Stache and under Stache_D:
+//! which state and continuation a block has, what a message says, and whether a cache stands as the home's state asks. A
+//! further protocol gives its words in `specs/Directories` and a case where a function takes a `Directory`.
 #![tactic(auto)]
 
 mod count;

@@ -75,7 +75,8 @@ fn owns(place: Place, down: Few) -> bool
 }
 
 fn answers(x: &Seen) -> bool
-    ensures { (s : marks.Spot) (ro wr : ℕ) → IsSeen x.now s ro wr → Decides result (Answers s.state ro wr (marks.gets_rw s) s.down s.up) }
+    ensures { (s : marks.Spot) (ro wr : ℕ) → IsSeen x.now s ro wr →
+        Decides result (Answers s.state ro wr (marks.gets_rw s) s.down s.up) }
 {
     match (x.down, x.up) {
         (Few::Empty, Few::Empty) => is_away(x.place, x.ro, x.wr),
@@ -92,13 +93,15 @@ fn answers(x: &Seen) -> bool
 
 /// Whether a cache stands that sent its words back.
 fn has_put(place: Place, ro: Count, wr: Count) -> bool
-    ensures { (n k : ℕ) (ws : List ℕ) → IsCount ro n → IsCount wr k → Decides result (GivesBack (state_in place) n k [] (marks.NPut ws ∷ [])) }
+    ensures { (n k : ℕ) (ws : List ℕ) → IsCount ro n → IsCount wr k →
+        Decides result (GivesBack (state_in place) n k [] (marks.NPut ws ∷ [])) }
 {
     is_away(place, ro, wr)
 }
 
 fn gives_back(place: Place, ro: Count, wr: Count, down: Few, up: Few) -> bool
-    ensures { (n k : ℕ) (ds us : List marks.Note) → IsCount ro n → IsCount wr k → IsFew down ds → IsFew up us → Decides result (GivesBack (state_in place) n k ds us) }
+    ensures { (n k : ℕ) (ds us : List marks.Note) → IsCount ro n → IsCount wr k → IsFew down ds → IsFew up us →
+        Decides result (GivesBack (state_in place) n k ds us) }
 {
     match (down, up) {
         (Few::Empty, Few::One(Note::Put(_))) => has_put(place, ro, wr),
@@ -118,7 +121,8 @@ fn is_apart(x: &Seen) -> bool
 }
 
 fn shares(x: &Seen) -> bool
-    ensures { (s : marks.Spot) (ro wr : ℕ) → IsSeen x.now s ro wr → Decides result (IsSharer s.state (marks.gets_rw s) s.down × (s.up ≡ [])) }
+    ensures { (s : marks.Spot) (ro wr : ℕ) → IsSeen x.now s ro wr →
+        Decides result (IsSharer s.state (marks.gets_rw s) s.down × (s.up ≡ [])) }
 {
     is_sharer(x.place, x.gets, x.down) && x.up.is_empty()
 }
@@ -130,7 +134,8 @@ fn is_owner(x: &Seen) -> bool
 }
 
 fn stands_acks(x: &Seen, held_rw: Count) -> bool
-    ensures { (s : marks.Spot) (ro wr held : ℕ) → IsSeen x.now s ro wr → IsCount held_rw held → Decides result (Answers s.state ro wr (marks.gets_rw s) s.down s.up × (held ≡ 1 → (s.down ≡ []) × (s.up ≡ []))) }
+    ensures { (s : marks.Spot) (ro wr held : ℕ) → IsSeen x.now s ro wr → IsCount held_rw held →
+        Decides result (Answers s.state ro wr (marks.gets_rw s) s.down s.up × (held ≡ 1 → (s.down ≡ []) × (s.up ≡ []))) }
 {
     if !answers(x) {
         return false;
@@ -143,14 +148,16 @@ fn stands_acks(x: &Seen, held_rw: Count) -> bool
 }
 
 fn stands_put(x: &Seen, held_ro: Count, held_rw: Count) -> bool
-    ensures { (s : marks.Spot) (ro wr n k : ℕ) → IsSeen x.now s ro wr → IsCount held_ro n → IsCount held_rw k → Decides result (GivesBack s.state ro wr s.down s.up × (n + k ≡ 0)) }
+    ensures { (s : marks.Spot) (ro wr n k : ℕ) → IsSeen x.now s ro wr → IsCount held_ro n → IsCount held_rw k →
+        Decides result (GivesBack s.state ro wr s.down s.up × (n + k ≡ 0)) }
 {
     gives_back(x.place, x.ro, x.wr, x.down, x.up) && held_ro.plus(held_rw).is_zero()
 }
 
 /// Whether a cache stands as the home's state asks, under Stache.
 fn stands_of_stache(home: Place, has: OfHome, x: &Seen) -> bool
-    ensures { (h : Here) (i : ℕ) (s : marks.Spot) (ro wr : ℕ) → IsSeen x.now s ro wr → IsOfHome has h i → Decides result (Stands (state_in home) h i s ro wr) }
+    ensures { (h : Here) (i : ℕ) (s : marks.Spot) (ro wr : ℕ) → IsSeen x.now s ro wr → IsOfHome has h i →
+        Decides result (Stands (state_in home) h i s ro wr) }
 {
     match home {
         Place::HomeRw => is_apart(x),
@@ -168,9 +175,11 @@ fn stands_of_stache(home: Place, has: OfHome, x: &Seen) -> bool
     }
 }
 
-/// Whether an owner stands that is to keep a copy: it has its block and the recall is on the way, or it is as a sharer and has answered.
+/// Whether an owner stands that is to keep a copy: it has its block and the recall is on the way, or it is as a sharer and has
+/// answered.
 fn gives_copy(x: &Seen) -> bool
-    ensures { (s : marks.Spot) (ro wr : ℕ) → IsSeen x.now s ro wr → Decides result (words_d.GivesCopy s.state (marks.gets_rw s) s.down s.up) }
+    ensures { (s : marks.Spot) (ro wr : ℕ) → IsSeen x.now s ro wr →
+        Decides result (words_d.GivesCopy s.state (marks.gets_rw s) s.down s.up) }
 {
     match (x.down, x.up) {
         (Few::One(Note::RecallRo), Few::Empty) => matches!(x.place, Place::CacheRw),
@@ -196,7 +205,8 @@ fn returns_all(x: &Seen) -> bool
 
 /// Whether the owner stands as the request asks that the home serves: a read leaves it a copy.
 fn is_recalled(x: &Seen, whose: Whose) -> bool
-    ensures { (s : marks.Spot) (ro wr : ℕ) → IsSeen x.now s ro wr → Decides result (words_d.Recalled (rest_in whose) s.state ro wr (marks.gets_rw s) s.down s.up) }
+    ensures { (s : marks.Spot) (ro wr : ℕ) → IsSeen x.now s ro wr →
+        Decides result (words_d.Recalled (rest_in whose) s.state ro wr (marks.gets_rw s) s.down s.up) }
 {
     match whose {
         Whose::OfLoad => gives_copy(x),
@@ -210,7 +220,9 @@ fn is_recalled(x: &Seen, whose: Whose) -> bool
 
 /// Whether the owner stands as a home asks that waits for its words, under Stache_D.
 fn stands_recalled(x: &Seen, has: OfHome) -> bool
-    ensures { (h : Here) (i : ℕ) (s : marks.Spot) (ro wr : ℕ) → IsSeen x.now s ro wr → IsOfHome has h i → Decides result (words_d.Recalled h.rest s.state ro wr (marks.gets_rw s) s.down s.up × (marks.held_ro h.rest i + marks.held_rw h.rest i ≡ 0)) }
+    ensures { (h : Here) (i : ℕ) (s : marks.Spot) (ro wr : ℕ) → IsSeen x.now s ro wr → IsOfHome has h i →
+        Decides result (words_d.Recalled h.rest s.state ro wr (marks.gets_rw s) s.down s.up
+        × (marks.held_ro h.rest i + marks.held_rw h.rest i ≡ 0)) }
 {
     both(
         is_recalled(x, has.whose),
@@ -219,7 +231,8 @@ fn stands_recalled(x: &Seen, has: OfHome) -> bool
 }
 
 fn stands_of_d(home: Place, has: OfHome, x: &Seen) -> bool
-    ensures { (h : Here) (i : ℕ) (s : marks.Spot) (ro wr : ℕ) → IsSeen x.now s ro wr → IsOfHome has h i → Decides result (words_d.Stands (state_in home) h i s ro wr) }
+    ensures { (h : Here) (i : ℕ) (s : marks.Spot) (ro wr : ℕ) → IsSeen x.now s ro wr → IsOfHome has h i →
+        Decides result (words_d.Stands (state_in home) h i s ro wr) }
 {
     match home {
         Place::HomePut => {
@@ -235,7 +248,8 @@ fn stands_of_d(home: Place, has: OfHome, x: &Seen) -> bool
 
 /// Whether a cache stands as the home's state asks.
 pub fn stands(directory: Directory, home: Place, has: OfHome, x: &Seen) -> bool
-    ensures { (h : Here) (i : ℕ) (s : marks.Spot) (ro wr : ℕ) → IsSeen x.now s ro wr → IsOfHome has h i → Decides result (StandsUnder directory (state_in home) h i s ro wr) }
+    ensures { (h : Here) (i : ℕ) (s : marks.Spot) (ro wr : ℕ) → IsSeen x.now s ro wr → IsOfHome has h i →
+        Decides result (StandsUnder directory (state_in home) h i s ro wr) }
 {
     match directory {
         Directory::Stache => stands_of_stache(home, has, x),

@@ -93,7 +93,8 @@ impl Summary {
 
     /// With one more note, where a block has this many words and copies are compared with these.
     pub fn and(&self, note: &Note, count: u8, words: Data) -> Self
-        ensures { (ns : List marks.Note) → IsSummary count words self.now ns → IsSummary count words result (ns ++ note_in note.now ∷ []) }
+        ensures { (ns : List marks.Note) → IsSummary count words self.now ns →
+            IsSummary count words result (ns ++ note_in note.now ∷ []) }
     {
         Summary {
             few: self.few.and(note),

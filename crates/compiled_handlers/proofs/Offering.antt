@@ -41,7 +41,8 @@ module _ (p : Protocol) (code : Code) (a : IsAccepted p) (c : IsCode p code) whe
     abbrev FitsHere : ℕ → OpCode → Type 0
     FitsHere at o = Fits p (names_of x.entry) code.ops door.at x.fin (length (names_of x.entry)) door.slots at o
 
-    fits_there : (at : ℕ) (o : OpCode) → length (names_of x.entry) ≤ door.slots → HasOp code.ops at o → FitsHere at o → IsThere p code door.slots o
+    fits_there : (at : ℕ) (o : OpCode) → length (names_of x.entry) ≤ door.slots → HasOp code.ops at o → FitsHere at o →
+        IsThere p code door.slots o
     fits_there at (op.Get k) n has f = omega arith
     fits_there at (op.GetInfo k) n has f = f
     fits_there at (op.Put k) n has (inl f) = omega arith
@@ -65,7 +66,8 @@ module _ (p : Protocol) (code : Code) (a : IsAccepted p) (c : IsCode p code) whe
         by_side (inl f) = let n = neat_here in fits_there at o n.grow has f.1
         by_side (inr f) = subst (IsThere p code door.slots) (sym f) tt
 
-    leads_in : (at next : ℕ) (o : OpCode) (written : Option ℕ) → InPart code number door at → HasOp code.ops at o → LeadsTo o at next written → (door.at ≤ next) × (next ≤ x.fin)
+    leads_in : (at next : ℕ) (o : OpCode) (written : Option ℕ) → InPart code number door at → HasOp code.ops at o →
+        LeadsTo o at next written → (door.at ≤ next) × (next ≤ x.fin)
     leads_in at next o written i has l = by_side (op_fits p code a c number door x at o i.from (last at i) has)
       where
         by_side : ((at < x.fin) × FitsHere at o) ⊎ (o ≡ op.Done) → (door.at ≤ next) × (next ≤ x.fin)
@@ -82,9 +84,11 @@ module _ (p : Protocol) (code : Code) (a : IsAccepted p) (c : IsCode p code) whe
 
   width_in : (number : ℕ) (door : Door) (at : ℕ) → InPart code number door at → width_from 0 code.doors at ≡ door.slots
   width_in number door at i =
-      width_is code.doors 0 0 (length code.ops) at number door rising i.is_door i.from (subst (λ k. at < place_or (slice_get code.doors k) (length code.ops)) (add-one number) i.before)
+      width_is code.doors 0 0 (length code.ops) at number door rising i.is_door i.from
+      (subst (λ k. at < place_or (slice_get code.doors k) (length code.ops)) (add-one number) i.before)
 
-  door_place : (number : ℕ) (door : Door) → slice_get code.doors number ≡ Some door → (door.at < length code.ops) × (width_from 0 code.doors door.at ≡ door.slots)
+  door_place : (number : ℕ) (door : Door) → slice_get code.doors number ≡ Some door →
+      (door.at < length code.ops) × (width_from 0 code.doors door.at ≡ door.slots)
   door_place number door e =
       let x = handled p code c number door e in
       let last = fin_there p code a c number door x in
@@ -95,7 +99,8 @@ module _ (p : Protocol) (code : Code) (a : IsAccepted p) (c : IsCode p code) whe
 
   rest_place : (number : ℕ) (rest : Rest) → slice_get code.rests number ≡ Some rest → rest.at < length code.ops
   rest_place number rest e =
-      ltb-true rest.at (length code.ops) (and_parts (nat_lt rest.at (length code.ops)) _ (is_rest_here p code a c number rest e)).0
+      ltb-true rest.at (length code.ops) (and_parts (nat_lt rest.at (length code.ops)) _
+      (is_rest_here p code a c number rest e)).0
 
   op_there : (at : ℕ) (o : OpCode) → HasOp code.ops at o → IsThere p code (width_from 0 code.doors at) o
   op_there at o has =
@@ -104,7 +109,8 @@ module _ (p : Protocol) (code : Code) (a : IsAccepted p) (c : IsCode p code) whe
       let x = handled p code c h.number h.door i.is_door in
       subst (λ n. IsThere p code n o) (sym (width_in h.number h.door at i)) (there_in h.number h.door x at o i has)
 
-  op_leads : (at next : ℕ) (o : OpCode) (written : Option ℕ) → HasOp code.ops at o → LeadsTo o at next written → (next < length code.ops) × (width_from 0 code.doors next ≡ width_from 0 code.doors at)
+  op_leads : (at next : ℕ) (o : OpCode) (written : Option ℕ) → HasOp code.ops at o → LeadsTo o at next written →
+      (next < length code.ops) × (width_from 0 code.doors next ≡ width_from 0 code.doors at)
   op_leads at next o written has l =
       let h = home_of at (slice_get_within code.ops at o has) in
       let i = h.inside in

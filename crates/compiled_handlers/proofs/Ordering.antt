@@ -20,7 +20,9 @@ module _ (p : Protocol) where
       let ops = entry_code p d at r 0 in
       ap (λ l. sign d ∷ l) (doors_signed entries (at + length ops) (r + rests_in ops))
 
-  state_signed : (number : ℕ) (s : State) (hs : List Handler) (more : List Entry) (rest : List Sign) → map sign more ≡ rest → map sign (map (λ h. record { number = number; state = s; handler = h }) hs ++ more) ≡ map (λ h. record { state = number; on = kind_of p h.on }) hs ++ rest
+  state_signed : (number : ℕ) (s : State) (hs : List Handler) (more : List Entry) (rest : List Sign) → map sign more ≡ rest →
+      map sign (map (λ h. record { number = number; state = s; handler = h }) hs ++ more)
+      ≡ map (λ h. record { state = number; on = kind_of p h.on }) hs ++ rest
   state_signed number s [] more rest e = e
   state_signed number s (h ∷ hs) more rest e =
       ap (λ l. record { state = number; on = kind_of p h.on } ∷ l) (state_signed number s hs more rest e)
@@ -28,7 +30,8 @@ module _ (p : Protocol) where
   entries_signed : (number : ℕ) (states : List State) → map sign (entries_from number states) ≡ signs_from p number states
   entries_signed number [] = refl
   entries_signed number (s ∷ states) =
-      state_signed number s s.handlers (entries_from (number + 1) states) (signs_from p (number + 1) states) (entries_signed (number + 1) states)
+      state_signed number s s.handlers (entries_from (number + 1) states) (signs_from p (number + 1) states)
+      (entries_signed (number + 1) states)
 
 pub in_order : (p : Protocol) (code : Code) → IsCode p code → IsInOrder p code
 in_order p code c = ap (map sign_of) c.doors ∙ (doors_signed p (entries_of p) 0 0 ∙ entries_signed p 0 p.states)

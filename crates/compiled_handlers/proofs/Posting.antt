@@ -1,5 +1,6 @@
 -- Messages that are not on their wires yet, as the model says them; and the data of a message of a protocol.
-use Rattle.std.proofs.Common.{◌≡◌, ◌∙◌, ℕ, ◌-◌, ◌≤◌, Bool, true, false, List, [], ◌∷◌, ◌++◌, Option, Some, None, length, drop, take, replicate, refl, sym, ap, arith}
+use Rattle.std.proofs.Common.{◌≡◌, ◌∙◌, ℕ, ◌-◌, ◌≤◌, Bool, true, false, List, [], ◌∷◌, ◌++◌, Option, Some, None, length, drop}
+use Rattle.std.proofs.Common.{take, replicate, refl, sym, ap, arith}
 use Rattle.std.specs.Prelude.{All, map, slice_get}
 use Rattle.std.proofs.lemmas.List.{length-take-le, take-append-drop, take_all}
 use Rattle.std.proofs.lemmas.List.Elements.{All-head, All-tail}
@@ -21,7 +22,8 @@ use Rattle.dsm_runs.proofs.SameMessage.{same_message}
 
 -- ---- messages as they are sent
 
-module _ (count : ℕ) (args : List Value) (four : length args ≡ 4) (few : count ≤ 4) (unused : drop count args ≡ replicate (4 - count) (Int 0)) where
+module _ (count : ℕ) (args : List Value) (four : length args ≡ 4) (few : count ≤ 4)
+    (unused : drop count args ≡ replicate (4 - count) (Int 0)) where
   long : length (take count args) ≡ count
   long = length-take-le count args (omega (arith, four, few))
 
@@ -33,7 +35,8 @@ module _ (count : ℕ) (args : List Value) (four : length args ≡ 4) (few : cou
 
   pub pads : args ≡ padded_args (take count args)
   pads =
-      sym (take-append-drop count args) ∙ ap (λ xs. take count args ++ xs) unused ∙ ap (λ n. take count args ++ replicate (4 - n) (Int 0)) counts
+      sym (take-append-drop count args) ∙ ap (λ xs. take count args ++ xs) unused
+      ∙ ap (λ n. take count args ++ replicate (4 - n) (Int 0)) counts
       ∙ ap (λ xs. xs ++ replicate (4 - length (used_args (take count args))) (Int 0)) (sym used)
 
 same_declared : (m : Option MessageDecl) → chan_in m ≡ declared_chan m
@@ -47,14 +50,17 @@ same_chan p (kind.Named n) = same_declared (slice_get p.messages n)
 
 is_message : (p : Protocol) (me block : ℕ) (m : Message) → IsUnsent p me block m → m ≡ message_of p me block 0 (out_of m)
 is_message p me block m u =
-    same_message m (message_of p me block 0 (out_of m)) refl u.for_block u.from refl (u.chan ∙ same_chan p m.kind) u.number u.stamp refl
+    same_message m (message_of p me block 0 (out_of m)) refl u.for_block u.from refl
+    (u.chan ∙ same_chan p m.kind) u.number u.stamp refl
     (pads m.arg_count m.args u.places m.few m.unused) (counts m.arg_count m.args u.places m.few m.unused)
 
-pub are_messages : (p : Protocol) (me block : ℕ) (sent : List Message) → All (IsUnsent p me block) sent → sent ≡ map (message_of p me block 0) (map out_of sent)
+pub are_messages : (p : Protocol) (me block : ℕ) (sent : List Message) → All (IsUnsent p me block) sent →
+    sent ≡ map (message_of p me block 0) (map out_of sent)
 are_messages p me block [] all = refl
 are_messages p me block (m ∷ sent) all =
     ap (λ (x : Message). x ∷ sent) (is_message p me block m (All-head (IsUnsent p me block) m sent all))
-    ∙ ap (λ ms. message_of p me block 0 (out_of m) ∷ ms) (are_messages p me block sent (All-tail (IsUnsent p me block) m sent all))
+    ∙ ap (λ ms. message_of p me block 0 (out_of m) ∷ ms) (are_messages p me block sent
+    (All-tail (IsUnsent p me block) m sent all))
 
 -- ---- data of a message of the protocol are a whole block
 

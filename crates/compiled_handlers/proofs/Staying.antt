@@ -14,7 +14,8 @@ use Rattle.teapot_meaning.specs.Does.{Does}
 use Rattle.teapot_meaning.specs.Goes.{Goes, ends, goes_on}
 use Rattle.teapot_meaning.specs.Layers.{Layer, what_of}
 use Rattle.teapot_meaning.specs.Names.{info_number}
-use Rattle.teapot_meaning.specs.Steps.{assigned, assigned_at, assigned_info, ended, least_of, led_to, moved, next_of, place_of, resumes, sent, sent_all, suspended, suspends, tagged, turned, turns}
+use Rattle.teapot_meaning.specs.Steps.{assigned, assigned_at, assigned_info, ended, least_of, led_to, moved, next_of, place_of}
+use Rattle.teapot_meaning.specs.Steps.{resumes, sent, sent_all, suspended, suspends, tagged, turned, turns}
 use Rattle.teapot_meaning.specs.Values.{value_of}
 use Rattle.teapot_meaning.specs.declared.state.Cont.{Cont}
 use Rattle.teapot_meaning.specs.declared.state.Ended.{Ended}
@@ -37,7 +38,8 @@ info_stays : (r : Running) (x : Value) (o : Option ℕ) → place (assigned_info
 info_stays r x (Some i) = refl
 info_stays r x None = refl
 
-variable_stays : (r : Running) (name : Name) (x : Value) (o info : Option ℕ) → place (assigned_at r name x o info).here ≡ place r.here
+variable_stays : (r : Running) (name : Name) (x : Value) (o info : Option ℕ) →
+    place (assigned_at r name x o info).here ≡ place r.here
 variable_stays r name x (Some i) info = refl
 variable_stays r name x None info = info_stays r x info
 
@@ -45,18 +47,22 @@ assigned_stays : (p : Protocol) (r : Running) (name : Name) (x : Value) → plac
 unfolding assigned
 assigned_stays p r name x = variable_stays r name x (place_of name r.vars) (info_number p name)
 
-turned_stays : (p : Protocol) (x : Name) (set : List Bool) (o : Option ℕ) (body rest : List Stmt) (r : Running) → IsAt (place r.here) (turned p x set o body rest r)
+turned_stays : (p : Protocol) (x : Name) (set : List Bool) (o : Option ℕ) (body rest : List Stmt) (r : Running) →
+    IsAt (place r.here) (turned p x set o body rest r)
 turned_stays p x set None body rest r = refl
 turned_stays p x set (Some n) body rest r = assigned_stays p r x (v.Node n)
 
-chosen_stays : (b : Bool) (at : ℕ × ℕ × ℕ) (d e : Ended) → place d.here ≡ at → place e.here ≡ at → IsAt at (if b then Over d else Over e)
+chosen_stays : (b : Bool) (at : ℕ × ℕ × ℕ) (d e : Ended) → place d.here ≡ at → place e.here ≡ at →
+    IsAt at (if b then Over d else Over e)
 chosen_stays true at d e f g = f
 chosen_stays false at d e f g = g
 
-suspends_stays : (r : Running) (state : ℕ) (args : List Value) (rest : List Stmt) → IsAt (place r.here) (suspends r state args rest)
+suspends_stays : (r : Running) (state : ℕ) (args : List Value) (rest : List Stmt) →
+    IsAt (place r.here) (suspends r state args rest)
 unfolding suspends ended
 suspends_stays r state args rest =
-    chosen_stays (nat_le 8 (depth r.here.state)) (place r.here) (ended r TooDeep) (ended (suspended r state args rest) Fine) refl refl
+    chosen_stays (nat_le 8 (depth r.here.state)) (place r.here) (ended r TooDeep)
+    (ended (suspended r state args rest) Fine) refl refl
 
 resumes_stays : (r : Running) (o : Option Cont) → IsAt (place r.here) (resumes r o)
 unfolding resumes ended
@@ -89,7 +95,8 @@ end_stays : {p : Protocol} {stmts : List Stmt} {r : Running} {e : Ended} → Goe
 end_stays {p} {stmts} {r} (ends h) = subst (IsAt (place r.here)) h (next_stays p stmts r)
 end_stays {p} {stmts} {r} (goes_on h more) = end_stays more ∙ subst (IsAt (place r.here)) h (next_stays p stmts r)
 
-pub still_at : (p : Protocol) (me home block : ℕ) (here : Here) (m : Message) (e : Ended) → IsBlockOf me home block here → Does p here m e → IsBlockOf me home block e.here
+pub still_at : (p : Protocol) (me home block : ℕ) (here : Here) (m : Message) (e : Ended) → IsBlockOf me home block here →
+    Does p here m e → IsBlockOf me home block e.here
 still_at p me home block here m e is d =
     let same = end_stays d.goes in
     record {

@@ -27,12 +27,14 @@ value_padded [] more k = value_zeros more k
 value_padded (x ∷ xs) more zero = refl
 value_padded (x ∷ xs) more (suc k) = value_padded xs more k
 
-sets_padded : (ops : List OpCode) (at : ℕ) (xs : List Value) (more : ℕ) (loops : List Loop) → HoldsSets ops at xs loops → HoldsSets ops at (xs ++ replicate more (v.Int 0)) loops
+sets_padded : (ops : List OpCode) (at : ℕ) (xs : List Value) (more : ℕ) (loops : List Loop) → HoldsSets ops at xs loops →
+    HoldsSets ops at (xs ++ replicate more (v.Int 0)) loops
 sets_padded ops at xs more [] h = tt
 sets_padded ops at xs more (l ∷ loops) h =
     (λ r. ap set_of (value_padded xs more l.slot) ∙ h.0 r, sets_padded ops at xs more loops h.1)
 
-agrees_filled : (ops : List OpCode) (width at slots : ℕ) (xs : List Value) (vars : List Bound) (loops : List Loop) → Agrees ops width at xs vars loops → Agrees ops width at (filled slots xs) vars loops
+agrees_filled : (ops : List OpCode) (width at slots : ℕ) (xs : List Value) (vars : List Bound) (loops : List Loop) →
+    Agrees ops width at xs vars loops → Agrees ops width at (filled slots xs) vars loops
 agrees_filled ops width at slots xs vars loops g = record {
   sized = omega (arith, g.sized, length-append xs (replicate (slots - length xs) (v.Int 0)));
   fits = g.fits;
@@ -41,11 +43,14 @@ agrees_filled ops width at slots xs vars loops g = record {
   sets = sets_padded ops at xs (slots - length xs) loops g.sets;
 }
 
-pub chain_widened : (p : Protocol) (code : Code) {chain : List Saved} {k : Option Cont} → ChainStands p code chain k → ChainStands p code (map widened chain) k
+pub chain_widened : (p : Protocol) (code : Code) {chain : List Saved} {k : Option Cont} → ChainStands p code chain k →
+    ChainStands p code (map widened chain) k
 chain_widened p code none = none
 chain_widened p code (some {first = first} {rest = rest} {width = width} {loops = loops} h follows agrees came state args older) =
-    some h follows (agrees_filled code.ops width rest.at 21 first.values _ loops agrees) came state args (chain_widened p code older)
+    some h follows (agrees_filled code.ops width rest.at 21 first.values _ loops agrees) came state args
+    (chain_widened p code older)
 
-pub state_widened : (p : Protocol) (code : Code) (state : ℕ) (args : List Value) (chain : List Saved) (x : StateVal) → StateStands p code state args chain x → StateStands p code state args (map widened chain) x
+pub state_widened : (p : Protocol) (code : Code) (state : ℕ) (args : List Value) (chain : List Saved) (x : StateVal) →
+    StateStands p code state args chain x → StateStands p code state args (map widened chain) x
 state_widened p code state args chain x s =
     record { same_state = s.same_state; same_args = s.same_args; conts = chain_widened p code s.conts }

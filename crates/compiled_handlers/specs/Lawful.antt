@@ -15,7 +15,9 @@ use Rattle.compiled_meaning.specs.Whole.{DoesWhatIsMeant, TakesFewOpsAt}
 -- the code does what is meant, in few ops a step.
 pub record IsLawful (p : Protocol) (code : Code) : Type 0 where
   pub fit : (here : Here) (m : Message) → Fits p here → IsMessageOf p (length here.words) m → StaysFit p here m
-  pub sends : (here : Here) (m : Message) (e : Ended) → Fits p here → IsMessageOf p (length here.words) m → Does p here m e → length e.sends ≤ 288
-  pub soon : (here : Here) (m : Message) (e : Ended) → Fits p here → (d : Does p here m e) → steps d.goes ≤ 73728 * length code.ops + 1
+  pub sends : (here : Here) (m : Message) (e : Ended) → Fits p here → IsMessageOf p (length here.words) m → Does p here m e →
+      length e.sends ≤ 288
+  pub soon : (here : Here) (m : Message) (e : Ended) → Fits p here → (d : Does p here m e) →
+      steps d.goes ≤ 73728 * length code.ops + 1
   pub meant : DoesWhatIsMeant p code
   pub few : TakesFewOpsAt p code

@@ -35,7 +35,8 @@ pub record IsBlockOf (me home block : ℕ) (here : Here) : Type 0 where
 
 -- What was done is what the message means: the same sends in order, the same marks and end, the block's tag and words,
 -- and no other block's; and what is kept now stands for the block as the meaning leaves it, which is the same block.
-pub record DoesAsMeant (p : Protocol) (code : Code) (me home block : ℕ) (old new : Keeping) (sent : List Message) (ran : Ran) (e : Ended) : Type 0 where
+pub record DoesAsMeant (p : Protocol) (code : Code) (me home block : ℕ) (old new : Keeping) (sent : List Message) (ran : Ran)
+    (e : Ended) : Type 0 where
   pub sends : sent ≡ map (message_of p me block 0) e.sends
   pub kept : ran.kept ≡ e.kept
   pub freed : ran.freed ≡ e.freed

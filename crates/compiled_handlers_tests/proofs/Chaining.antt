@@ -10,18 +10,27 @@ use Rattle.handler_vm.proofs.Chaining.{chain_few, chain_is, moved}
 use Rattle.compiled_handlers_tests.specs.Named.{IsNamed}
 
 -- a store that names the same records has the same chain
-pub same_chain : (words : ℕ) (old new : Store) (key : Option RecordKey) → ((k : RecordKey) → record_at new k ≡ record_at old k) → IsChain words old key → IsChain words new key × (records_of new key ≡ records_of old key)
+pub same_chain : (words : ℕ) (old new : Store) (key : Option RecordKey) →
+    ((k : RecordKey) → record_at new k ≡ record_at old k) → IsChain words old key →
+    IsChain words new key × (records_of new key ≡ records_of old key)
 same_chain words old new key same chain =
     let there : Chained new key (records_of old key) = moved chain.named (λ k s h low. same k ∙ h) in
-    let is : records_of new key ≡ records_of old key = chain_is there 8 (chain_few old key 8) in
-    (record { named = subst (Chained new key) (sym is) there; whole = subst (Each (IsWholeRecord words)) (sym is) chain.whole }, is)
+    let is : records_of new key ≡ records_of old key = chain_is there 8 (chain_few old key 8) in (
+      record {
+        named = subst (Chained new key) (sym is) there;
+        whole = subst (Each (IsWholeRecord words)) (sym is) chain.whole;
+      },
+      is,
+    )
 
 -- ---- the newest record, and the older ones
 
-pub newest_there : {store : Store} {key : RecordKey} {rs : List Record} → Chained store (Some key) rs → IsSome (record_at store key)
+pub newest_there : {store : Store} {key : RecordKey} {rs : List Record} → Chained store (Some key) rs →
+    IsSome (record_at store key)
 newest_there (heads e d rest) = subst IsSome (sym e) refl
 
-pub older_named : {store : Store} {key : RecordKey} {r : Record} {rs : List Record} → Chained store (Some key) rs → record_at store key ≡ Some r → IsNamed store r.parent
+pub older_named : {store : Store} {key : RecordKey} {r : Record} {rs : List Record} → Chained store (Some key) rs →
+    record_at store key ≡ Some r → IsNamed store r.parent
 older_named {store} {r = r'} (heads {r = top} {older = more} e d rest) named =
     let both : Some top ≡ Some r' = sym e ∙ named in
     let same : top ≡ r' = cc in

@@ -1,5 +1,6 @@
 -- The tag and the words of a block, where those of another were written.
-use Rattle.std.proofs.Common.{◌≡◌, ◌≢◌, ◌∙◌, ℕ, suc, ◌+◌, ◌-◌, ◌*◌, ◌<◌, ◌≤◌, List, ◌++◌, length, take, drop, ap, sym, inl, inr, arith, append_assoc, length-append, length-drop}
+use Rattle.std.proofs.Common.{◌≡◌, ◌≢◌, ◌∙◌, ℕ, suc, ◌+◌, ◌-◌, ◌*◌, ◌<◌, ◌≤◌, List, ◌++◌, length, take, drop, ap, sym, inl, inr}
+use Rattle.std.proofs.Common.{arith, append_assoc, length-append, length-drop}
 use Rattle.std.proofs.Math.Nat.{mul-le-mul_right}
 use Rattle.std.proofs.Math.Seq.{drop-append-add}
 use Rattle.std.proofs.lemmas.Bool.{cases_lt}
@@ -8,14 +9,17 @@ use Rattle.tw_base.specs.declared.value.Tag.{Tag}
 use Rattle.tw_base.specs.declared.value.Tag.TheVariants.{Invalid}
 use Rattle.block_tags.specs.Copies.{Copies, IsWhole, block_words, tag_of, with_block, with_tag}
 
-pub tag_unwritten : (m : Copies) (block other : ℕ) (tag : Tag) (contents : List ℕ) → other ≢ block → tag_of (with_block (with_tag m block tag) block contents) other ≡ tag_of m other
+pub tag_unwritten : (m : Copies) (block other : ℕ) (tag : Tag) (contents : List ℕ) → other ≢ block →
+    tag_of (with_block (with_tag m block tag) block contents) other ≡ tag_of m other
 tag_unwritten m block other tag contents differs = get_or-set_other m.tags block other tag Invalid differs
 
 front : (w p : ℕ) (xs ys : List ℕ) → p + w ≤ length xs → take w (drop p (xs ++ ys)) ≡ take w (drop p xs)
-front w p xs ys h = ap (take w) (drop-append-le p xs ys (omega (arith, h))) ∙ take-append-le w (drop p xs) ys (omega (arith, h, length-drop p xs))
+front w p xs ys h = ap (take w) (drop-append-le p xs ys (omega (arith, h)))
+    ∙ take-append-le w (drop p xs) ys (omega (arith, h, length-drop p xs))
 
 -- the words before those that were written
-before : (w p n : ℕ) (xs ys zs : List ℕ) → p + w ≤ n → n ≤ length xs → take w (drop p (take n xs ++ ys ++ zs)) ≡ take w (drop p xs)
+before : (w p n : ℕ) (xs ys zs : List ℕ) → p + w ≤ n → n ≤ length xs →
+    take w (drop p (take n xs ++ ys ++ zs)) ≡ take w (drop p xs)
 before w p n xs ys zs h few =
     let within : p + w ≤ length (take n xs) = omega (arith, h, length-take-le n xs few) in
     ap (λ l. take w (drop p l)) (append_assoc (take n xs) ys zs)
@@ -24,17 +28,22 @@ before w p n xs ys zs h few =
     ∙ ap (λ l. take w (drop p l)) (take-append-drop n xs)
 
 -- those behind them
-behind_by : (w n d : ℕ) (xs ys : List ℕ) → n ≤ length xs → length ys ≡ w → drop (n + w + d) (take n xs ++ ys ++ drop (n + w) xs) ≡ drop (n + w + d) xs
+behind_by : (w n d : ℕ) (xs ys : List ℕ) → n ≤ length xs → length ys ≡ w →
+    drop (n + w + d) (take n xs ++ ys ++ drop (n + w) xs) ≡ drop (n + w + d) xs
 behind_by w n d xs ys few full =
     let long : length (take n xs ++ ys) ≡ n + w = omega (arith, length-append (take n xs) ys, length-take-le n xs few, full) in
-    ap (λ k. drop (k + d) (take n xs ++ ys ++ drop (n + w) xs)) (sym long) ∙ drop-append-add (take n xs ++ ys) (drop (n + w) xs) d ∙ drop-drop d (n + w) xs
+    ap (λ k. drop (k + d) (take n xs ++ ys ++ drop (n + w) xs)) (sym long)
+    ∙ drop-append-add (take n xs ++ ys) (drop (n + w) xs) d ∙ drop-drop d (n + w) xs
 
-behind : (w p n : ℕ) (xs ys : List ℕ) → n + w ≤ p → n ≤ length xs → length ys ≡ w → take w (drop p (take n xs ++ ys ++ drop (n + w) xs)) ≡ take w (drop p xs)
+behind : (w p n : ℕ) (xs ys : List ℕ) → n + w ≤ p → n ≤ length xs → length ys ≡ w →
+    take w (drop p (take n xs ++ ys ++ drop (n + w) xs)) ≡ take w (drop p xs)
 behind w p n xs ys far few full =
     let is : p ≡ n + w + (p - (n + w)) = omega (arith, far) in
-    ap (λ k. take w (drop k (take n xs ++ ys ++ drop (n + w) xs))) is ∙ ap (take w) (behind_by w n (p - (n + w)) xs ys few full) ∙ ap (λ k. take w (drop k xs)) (sym is)
+    ap (λ k. take w (drop k (take n xs ++ ys ++ drop (n + w) xs))) is
+    ∙ ap (take w) (behind_by w n (p - (n + w)) xs ys few full) ∙ ap (λ k. take w (drop k xs)) (sym is)
 
-pub words_unwritten : (m : Copies) (block other : ℕ) (tag : Tag) (contents : List ℕ) → IsWhole m → block < m.shape.blocks → length contents ≡ m.shape.words → other ≢ block
+pub words_unwritten : (m : Copies) (block other : ℕ) (tag : Tag) (contents : List ℕ) → IsWhole m → block < m.shape.blocks →
+    length contents ≡ m.shape.words → other ≢ block
     → block_words (with_block (with_tag m block tag) block contents) other ≡ block_words m other
 words_unwritten m block other tag contents whole within full differs =
     let w = m.shape.words in

@@ -104,8 +104,11 @@ fn turn(
 ) -> Result<(), Fail>
     requires code { IsCode p.now code.now }
     requires short { length code.now.ops < 2 ^ 22 }
-    requires alike { Alike p.now code.now (record { cell = both.old.cell; blocks = both.old.blocks; conts = both.old.conts }) both.old.here }
-    ensures { OnOk result (Alike p.now code.now (record { cell = both.new.cell; blocks = both.new.blocks; conts = both.new.conts }) both.new.here) }
+    requires alike { Alike p.now code.now (record { cell = both.old.cell; blocks = both.old.blocks; conts = both.old.conts })
+        both.old.here }
+    ensures { OnOk result
+        (Alike p.now code.now (record { cell = both.new.cell; blocks = both.new.blocks; conts = both.new.conts })
+        both.new.here) }
 {
     let m = any_message(p.protocol(), dice, both.here.me, both.here.block, 3)?;
     let before = depth(&both.here.state, 9);

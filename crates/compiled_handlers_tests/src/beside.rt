@@ -30,11 +30,13 @@ fn exchange(both: &mut Both, side: &mut Side)
     ensures block { both.new.here.block ≡ side.old.here.block }
     ensures conts { both.new.conts ≡ both.old.conts }
     ensures alike { (p : Protocol) (code : Code) →
-        IsBeside p code (record { cell = both.old.cell; blocks = both.old.blocks; conts = both.old.conts }) both.old.here.block side.old.cell side.old.here →
+        IsBeside p code (record { cell = both.old.cell; blocks = both.old.blocks; conts = both.old.conts }) both.old.here.block
+        side.old.cell side.old.here →
         Alike p code (record { cell = both.new.cell; blocks = both.new.blocks; conts = both.new.conts }) both.new.here }
     ensures beside { (p : Protocol) (code : Code) →
         Alike p code (record { cell = both.old.cell; blocks = both.old.blocks; conts = both.old.conts }) both.old.here →
-        IsBeside p code (record { cell = both.old.cell; blocks = both.old.blocks; conts = both.old.conts }) both.old.here.block side.old.cell side.old.here →
+        IsBeside p code (record { cell = both.old.cell; blocks = both.old.blocks; conts = both.old.conts }) both.old.here.block
+        side.old.cell side.old.here →
         IsBeside p code (record { cell = both.new.cell; blocks = both.new.blocks; conts = both.new.conts }) both.new.here.block side.new.cell side.new.here }
 {
     mem::swap(&mut both.cell, &mut side.cell);
@@ -52,11 +54,18 @@ fn turn_here(
 ) -> Result<(), Fail>
     requires code { IsCode p.now code.now }
     requires short { length code.now.ops < 2 ^ 22 }
-    requires alike { Alike p.now code.now (record { cell = both.old.cell; blocks = both.old.blocks; conts = both.old.conts }) both.old.here }
-    requires beside { IsBeside p.now code.now (record { cell = both.old.cell; blocks = both.old.blocks; conts = both.old.conts }) both.old.here.block side.now.cell side.now.here }
+    requires alike { Alike p.now code.now (record { cell = both.old.cell; blocks = both.old.blocks; conts = both.old.conts })
+        both.old.here }
+    requires beside { IsBeside p.now code.now (record { cell = both.old.cell; blocks = both.old.blocks; conts = both.old.conts })
+        both.old.here.block side.now.cell side.now.here }
     ensures block { OnOk result (both.new.here.block ≡ m.now.block) }
-    ensures alike { OnOk result (Alike p.now code.now (record { cell = both.new.cell; blocks = both.new.blocks; conts = both.new.conts }) both.new.here) }
-    ensures beside { OnOk result (IsBeside p.now code.now (record { cell = both.new.cell; blocks = both.new.blocks; conts = both.new.conts }) both.new.here.block side.now.cell side.now.here) }
+    ensures alike { OnOk result (Alike p.now code.now (record { cell = both.new.cell; blocks = both.new.blocks; conts = both.new.conts })
+        both.new.here) }
+    ensures beside { OnOk result (IsBeside p.now code.now (record {
+      cell = both.new.cell;
+      blocks = both.new.blocks;
+      conts = both.new.conts;
+    }) both.new.here.block side.now.cell side.now.here) }
     ensures records { OnOk result (records_of both.new.conts side.now.cell.cont ≡ records_of both.old.conts side.now.cell.cont) }
 {
     let (_ran, end) = handled(alloc, code, p, both, m)?;
@@ -76,11 +85,18 @@ fn turn(
 ) -> Result<(), Fail>
     requires code { IsCode p.now code.now }
     requires short { length code.now.ops < 2 ^ 22 }
-    requires alike { Alike p.now code.now (record { cell = both.old.cell; blocks = both.old.blocks; conts = both.old.conts }) both.old.here }
-    requires beside { IsBeside p.now code.now (record { cell = both.old.cell; blocks = both.old.blocks; conts = both.old.conts }) both.old.here.block side.old.cell side.old.here }
+    requires alike { Alike p.now code.now (record { cell = both.old.cell; blocks = both.old.blocks; conts = both.old.conts })
+        both.old.here }
+    requires beside { IsBeside p.now code.now (record { cell = both.old.cell; blocks = both.old.blocks; conts = both.old.conts })
+        both.old.here.block side.old.cell side.old.here }
     ensures block { OnOk result (both.new.here.block ≡ m.now.block) }
-    ensures alike { OnOk result (Alike p.now code.now (record { cell = both.new.cell; blocks = both.new.blocks; conts = both.new.conts }) both.new.here) }
-    ensures beside { OnOk result (IsBeside p.now code.now (record { cell = both.new.cell; blocks = both.new.blocks; conts = both.new.conts }) both.new.here.block side.new.cell side.new.here) }
+    ensures alike { OnOk result (Alike p.now code.now (record { cell = both.new.cell; blocks = both.new.blocks; conts = both.new.conts })
+        both.new.here) }
+    ensures beside { OnOk result (IsBeside p.now code.now (record {
+      cell = both.new.cell;
+      blocks = both.new.blocks;
+      conts = both.new.conts;
+    }) both.new.here.block side.new.cell side.new.here) }
     ensures records { OnOk result (records_of both.new.conts side.new.cell.cont ≡ records_of both.old.conts side.new.cell.cont) }
 {
     if m.block == side.here.block {
@@ -111,7 +127,8 @@ fn blocks_shown(alloc: Global, both: &Both, side: &Side) -> Result<String, Fail>
 
 // Whether the records of the second block are those of the interpreter's continuations, as those of the first are.
 fn is_same_beside(code: &Code, p: &Checked, both: &Both, side: &Side) -> bool
-    requires { IsBeside p.now code.now (record { cell = both.now.cell; blocks = both.now.blocks; conts = both.now.conts }) both.now.here.block side.now.cell side.now.here }
+    requires { IsBeside p.now code.now (record { cell = both.now.cell; blocks = both.now.blocks; conts = both.now.conts })
+        both.now.here.block side.now.cell side.now.here }
 {
     let _protocol = p.protocol();
     same_chain(code, &both.conts, side.cell.cont, &side.here.state, 9)
@@ -128,8 +145,10 @@ fn turns(
 ) -> Result<(), Fail>
     requires code { IsCode p.now code.now }
     requires short { length code.now.ops < 2 ^ 22 }
-    requires alike { Alike p.now code.now (record { cell = both.old.cell; blocks = both.old.blocks; conts = both.old.conts }) both.old.here }
-    requires beside { IsBeside p.now code.now (record { cell = both.old.cell; blocks = both.old.blocks; conts = both.old.conts }) both.old.here.block side.old.cell side.old.here }
+    requires alike { Alike p.now code.now (record { cell = both.old.cell; blocks = both.old.blocks; conts = both.old.conts })
+        both.old.here }
+    requires beside { IsBeside p.now code.now (record { cell = both.old.cell; blocks = both.old.blocks; conts = both.old.conts })
+        both.old.here.block side.old.cell side.old.here }
 {
     for (block, word, due) in &TURNS {
         let block = BlockId::new(*block).ok_or("block")?;

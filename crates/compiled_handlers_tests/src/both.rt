@@ -114,7 +114,8 @@ fn first_here(
     requires within { block < blocks.now.shape.blocks }
     requires plain { IsPlain p.now cell.now.state }
     ensures fits { IfOk result (Fits p.now) }
-    ensures stands { IfOk result (λ here. cell.now.cont ≡ None → (code : Code) (conts : Store) → BlockStands p.now code (record { cell = cell.now; blocks = blocks.now; conts = conts }) here) }
+    ensures stands { IfOk result (λ here. cell.now.cont ≡ None → (code : Code) (conts : Store) →
+        BlockStands p.now code (record { cell = cell.now; blocks = blocks.now; conts = conts }) here) }
     ensures block { IfOk result (λ here. here.block ≡ block) }
 {
     let infos = infos_of(alloc, p, cell)?;
@@ -151,7 +152,9 @@ pub fn first(
     blocks: Blocks,
     block: BlockId,
 ) -> Result<Both, Fail>
-    ensures { (code : Code) → IfOk result (λ both. Alike p.now code (record { cell = both.cell; blocks = both.blocks; conts = both.conts }) both.here) }
+    ensures { (code : Code) →
+        IfOk result (λ both. Alike p.now code (record { cell = both.cell; blocks = both.blocks; conts = both.conts })
+        both.here) }
 {
     let protocol = p.protocol();
     if !begins_in(protocol, state) {
@@ -179,7 +182,12 @@ pub fn another(
     both: &Both,
     block: BlockId,
 ) -> Result<Side, Fail>
-    ensures { (code : Code) → IfOk result (λ side. IsBeside p.now code (record { cell = both.now.cell; blocks = both.now.blocks; conts = both.now.conts }) both.now.here.block side.cell side.here) }
+    ensures { (code : Code) →
+        IfOk result (λ side. IsBeside p.now code (record {
+          cell = both.now.cell;
+          blocks = both.now.blocks;
+          conts = both.now.conts;
+        }) both.now.here.block side.cell side.here) }
 {
     let protocol = p.protocol();
     if !begins_in(protocol, state) {
@@ -200,7 +208,9 @@ pub fn another(
 fn ready(both: &mut Both) -> Result<(), Memory>
     ensures room { OnOk result (1 ≤ both.new.conts.spare) }
     ensures same { both.new ≡ record both.old { conts = both.new.conts; around = both.new.around } }
-    ensures alike { (p : Protocol) (code : Code) → Alike p code (record { cell = both.old.cell; blocks = both.old.blocks; conts = both.old.conts }) both.old.here → Alike p code (record { cell = both.new.cell; blocks = both.new.blocks; conts = both.new.conts }) both.new.here }
+    ensures alike { (p : Protocol) (code : Code) → Alike p code
+        (record { cell = both.old.cell; blocks = both.old.blocks; conts = both.old.conts }) both.old.here →
+        Alike p code (record { cell = both.new.cell; blocks = both.new.blocks; conts = both.new.conts }) both.new.here }
     ensures beside { (p : Protocol) (code : Code) (block : ℕ) (other : Cell) (there : Here) →
         IsBeside p code (record { cell = both.old.cell; blocks = both.old.blocks; conts = both.old.conts }) block other there →
         StaysBeside p code (record { cell = both.old.cell; blocks = both.old.blocks; conts = both.old.conts }) (record { cell = both.new.cell; blocks = both.new.blocks; conts = both.new.conts }) block other there }
@@ -214,14 +224,18 @@ fn run_code(code: &Code, doors: &Doors, p: &Checked, both: &mut Both, m: &Messag
     requires code { IsCode p.now code.now }
     requires doors { IsTableOf p.now code.now doors.now }
     requires short { length code.now.ops < 2 ^ 22 }
-    requires alike { Alike p.now code.now (record { cell = both.old.cell; blocks = both.old.blocks; conts = both.old.conts }) both.old.here }
+    requires alike { Alike p.now code.now (record { cell = both.old.cell; blocks = both.old.blocks; conts = both.old.conts })
+        both.old.here }
     requires block { m.now.block ≡ both.old.here.block }
     requires message { IsMessageOf p.now both.old.blocks.shape.words m.now }
     requires spare { 1 ≤ both.old.conts.spare }
     ensures same { both.new.here ≡ both.old.here }
-    ensures alike { (e : Ended) → Does p.now both.old.here m.now e → EndsAlike p.now code.now (record { cell = both.new.cell; blocks = both.new.blocks; conts = both.new.conts }) both.new.here.block e }
+    ensures alike { (e : Ended) → Does p.now both.old.here m.now e →
+        EndsAlike p.now code.now (record { cell = both.new.cell; blocks = both.new.blocks; conts = both.new.conts })
+        both.new.here.block e }
     ensures beside { (other : Cell) (there : Here) →
-        IsBeside p.now code.now (record { cell = both.old.cell; blocks = both.old.blocks; conts = both.old.conts }) m.now.block other there →
+        IsBeside p.now code.now (record { cell = both.old.cell; blocks = both.old.blocks; conts = both.old.conts }) m.now.block
+        other there →
         StaysBeside p.now code.now (record { cell = both.old.cell; blocks = both.old.blocks; conts = both.old.conts }) (record { cell = both.new.cell; blocks = both.new.blocks; conts = both.new.conts }) m.now.block other there }
 {
     fitting_blocks_stay_fit();
@@ -254,12 +268,15 @@ pub fn handled(
 ) -> Result<(Ran, Ended), Fail>
     requires code { IsCode p.now code.now }
     requires short { length code.now.ops < 2 ^ 22 }
-    requires alike { Alike p.now code.now (record { cell = both.old.cell; blocks = both.old.blocks; conts = both.old.conts }) both.old.here }
-    ensures ends { IfOk result (λ done. EndsAlike p.now code.now (record { cell = both.new.cell; blocks = both.new.blocks; conts = both.new.conts }) both.new.here.block done.1) }
+    requires alike { Alike p.now code.now (record { cell = both.old.cell; blocks = both.old.blocks; conts = both.old.conts })
+        both.old.here }
+    ensures ends { IfOk result (λ done. EndsAlike p.now code.now (record
+        { cell = both.new.cell; blocks = both.new.blocks; conts = both.new.conts }) both.new.here.block done.1) }
     ensures block { OnOk result (m.now.block ≡ both.old.here.block) }
     ensures same { OnOk result (both.new.here ≡ both.old.here) }
     ensures beside { (other : Cell) (there : Here) →
-        IsBeside p.now code.now (record { cell = both.old.cell; blocks = both.old.blocks; conts = both.old.conts }) m.now.block other there →
+        IsBeside p.now code.now (record { cell = both.old.cell; blocks = both.old.blocks; conts = both.old.conts }) m.now.block
+        other there →
         OnOk result (StaysBeside p.now code.now (record { cell = both.old.cell; blocks = both.old.blocks; conts = both.old.conts }) (record { cell = both.new.cell; blocks = both.new.blocks; conts = both.new.conts }) m.now.block other there) }
 {
     let words = both.blocks.shape().words();
@@ -286,11 +303,16 @@ pub fn records(both: &Both) -> u8
 /// Goes on from what a message left, if it is the same block and its records are those of the interpreter's continuations.
 pub fn go_on(code: &Code, both: &mut Both, end: Ended) -> Result<(), Fail>
     requires { IsChain both.old.blocks.shape.words both.old.conts both.old.cell.cont }
-    ensures alike { (p : Protocol) → EndsAlike p code.now (record { cell = both.old.cell; blocks = both.old.blocks; conts = both.old.conts }) both.old.here.block end → OnOk result (Alike p code.now (record { cell = both.new.cell; blocks = both.new.blocks; conts = both.new.conts }) both.new.here) }
+    ensures alike { (p : Protocol) →
+        EndsAlike p code.now (record { cell = both.old.cell; blocks = both.old.blocks; conts = both.old.conts })
+        both.old.here.block end →
+        OnOk result (Alike p code.now (record { cell = both.new.cell; blocks = both.new.blocks; conts = both.new.conts })
+        both.new.here) }
     ensures block { OnOk result (both.new.here.block ≡ both.old.here.block) }
     ensures conts { both.new.conts ≡ both.old.conts }
     ensures beside { (p : Protocol) (block : ℕ) (other : Cell) (there : Here) →
-        IsBeside p code.now (record { cell = both.old.cell; blocks = both.old.blocks; conts = both.old.conts }) block other there →
+        IsBeside p code.now (record { cell = both.old.cell; blocks = both.old.blocks; conts = both.old.conts }) block other
+        there →
         IsBeside p code.now (record { cell = both.new.cell; blocks = both.new.blocks; conts = both.new.conts }) block other there }
 {
     let Ended {

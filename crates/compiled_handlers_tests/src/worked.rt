@@ -57,8 +57,11 @@ fn done(
 ) -> Result<String, Fail>
     requires code { IsCode p.now code.now }
     requires short { length code.now.ops < 2 ^ 22 }
-    requires alike { Alike p.now code.now (record { cell = both.old.cell; blocks = both.old.blocks; conts = both.old.conts }) both.old.here }
-    ensures { OnOk result (Alike p.now code.now (record { cell = both.new.cell; blocks = both.new.blocks; conts = both.new.conts }) both.new.here) }
+    requires alike { Alike p.now code.now (record { cell = both.old.cell; blocks = both.old.blocks; conts = both.old.conts })
+        both.old.here }
+    ensures { OnOk result
+        (Alike p.now code.now (record { cell = both.new.cell; blocks = both.new.blocks; conts = both.new.conts })
+        both.new.here) }
 {
     let (ran, end) = handled(alloc, code, p, both, m)?;
     let text = shown(alloc, p.protocol(), both, records(both), &ran)?;

@@ -1,5 +1,6 @@
 -- The code of a list of expressions leaves their values, the last one on top.
-use Rattle.std.proofs.Common.{◌≡◌, ℕ, suc, ◌+◌, List, [], ◌∷◌, ◌++◌, length, refl, sym, ap, ◌∙◌, reverse, take, drop, append_assoc}
+use Rattle.std.proofs.Common.{◌≡◌, ℕ, suc, ◌+◌, List, [], ◌∷◌, ◌++◌, length, refl, sym, ap, ◌∙◌, reverse, take, drop}
+use Rattle.std.proofs.Common.{append_assoc}
 use Rattle.std.specs.Prelude.{map}
 use Rattle.std.proofs.lemmas.List.{reverse-append, reverse-reverse, length-reverse}
 use Rattle.std.proofs.Math.Seq.{take-append_seam, drop-append_seam}
@@ -34,16 +35,21 @@ pub length_values : (p : Protocol) (r : Running) (es : List Expr) → length es 
 length_values p r [] = refl
 length_values p r (e ∷ es) = ap suc (length_values p r es)
 
-pub after_all : (p : Protocol) (names : List Name) (ops : List OpCode) (width : ℕ) (loops : List Loop) {at after : ℕ} {es : List Expr} (slots : List Value) (vars : List Bound) → EvaluatesAll p names ops at es after → Agrees ops width at slots vars loops → Agrees ops width after slots vars loops
+pub after_all : (p : Protocol) (names : List Name) (ops : List OpCode) (width : ℕ)
+    (loops : List Loop) {at after : ℕ} {es : List Expr} (slots : List Value) (vars : List Bound) →
+    EvaluatesAll p names ops at es after → Agrees ops width at slots vars loops → Agrees ops width after slots vars loops
 after_all p names ops width loops slots vars none g = g
-after_all p names ops width loops slots vars (more x y) g = after_all p names ops width loops slots vars y (after_expr p names ops width loops slots vars x g)
+after_all p names ops width loops slots vars (more x y) g = after_all p names ops width loops slots vars y
+    (after_expr p names ops width loops slots vars x g)
 
 pub record YieldsAll (p : Protocol) (code : Code) (m : Machine) (at after : ℕ) (xs : List Value) : Type 0 where
   pub ops : ℕ
   pub straight : ops + at ≡ m.ops + after
   pub comes : Comes p code (record m { at = at }) (record m { at = after; stack = reverse xs ++ m.stack; ops = ops })
 
-pub all_yield : (p : Protocol) (code : Code) (width : ℕ) (loops : List Loop) (r : Running) {at after : ℕ} {es : List Expr} (m : Machine) → EvaluatesAll p (names_of r.vars) code.ops at es after → Agrees code.ops width at m.slots r.vars loops → m.around ≡ around_of r → YieldsAll p code m at after (map (value_of p r) es)
+pub all_yield : (p : Protocol) (code : Code) (width : ℕ) (loops : List Loop) (r : Running) {at after : ℕ} {es : List Expr}
+    (m : Machine) → EvaluatesAll p (names_of r.vars) code.ops at es after → Agrees code.ops width at m.slots r.vars loops →
+    m.around ≡ around_of r → YieldsAll p code m at after (map (value_of p r) es)
 all_yield p code width loops r m none g i = record { ops = m.ops; straight = refl; comes = λ s z. z }
 all_yield p code width loops r m (more {at = at} {middle = middle} {after = after} {e = e} {es = es} x y) g i =
     let f = expr_yields p code width loops r m x g i in

@@ -1,5 +1,6 @@
 -- No handler holds more statements than the code has ops.
-use Rattle.std.proofs.Common.{◌≡◌, ◌∙◌, ℕ, suc, ◌+◌, ◌≤◌, List, [], ◌∷◌, ◌++◌, length, Some, refl, ap, sym, subst, arith, length-append}
+use Rattle.std.proofs.Common.{◌≡◌, ◌∙◌, ℕ, suc, ◌+◌, ◌≤◌, List, [], ◌∷◌, ◌++◌, length, Some, refl, ap, sym, subst, arith}
+use Rattle.std.proofs.Common.{length-append}
 use Rattle.std.specs.Prelude.{map}
 use Rattle.std.specs.List.{flat_map}
 use Rattle.std.proofs.Math.Nat.{le_refl}
@@ -38,10 +39,13 @@ use Rattle.compiled_meaning.proofs.Placed.{by_layer, layer_code}
 abbrev held_in : List Stmt → ℕ
 held_in stmts = length (steps_in (body_of stmts))
 
-held_first : (s : Stmt) (stmts : List Stmt) (l : Layer) → what_of s ≡ l → held_in (s ∷ stmts) ≡ length (steps_in (layer_body s.line l)) + held_in stmts
+held_first : (s : Stmt) (stmts : List Stmt) (l : Layer) → what_of s ≡ l →
+    held_in (s ∷ stmts) ≡ length (steps_in (layer_body s.line l)) + held_in stmts
 held_first s stmts l d =
-    ap (λ b. length (steps_in b)) (body-cons s stmts) ∙ ap (λ z. length (steps_in (append (layer_body s.line z) (body_of stmts)))) d
-    ∙ ap length (steps-append (layer_body s.line l) (body_of stmts)) ∙ length-append (steps_in (layer_body s.line l)) (steps_in (body_of stmts))
+    ap (λ b. length (steps_in b)) (body-cons s stmts)
+    ∙ ap (λ z. length (steps_in (append (layer_body s.line z) (body_of stmts)))) d
+    ∙ ap length (steps-append (layer_body s.line l) (body_of stmts))
+    ∙ length-append (steps_in (layer_body s.line l)) (steps_in (body_of stmts))
 
 both_le : (all here there whole a b : ℕ) → all ≡ here + there → whole ≡ a + b → here ≤ a → there ≤ b → all ≤ whole
 both_le all here there whole a b e f le more = omega arith
@@ -52,14 +56,23 @@ last_le a o = omega (arith, length-append a (o ∷ []))
 send_le : (a b : List OpCode) (o : OpCode) → 1 ≤ length (a ++ (b ++ o ∷ []))
 send_le a b o = omega (arith, length-append a (b ++ o ∷ []), length-append b (o ∷ []))
 
-test_le : (held : List Step) (t a : List OpCode) (o : OpCode) → length held ≤ length a → suc (length (held ++ [])) ≤ length (t ++ o ∷ a)
+test_le : (held : List Step) (t a : List OpCode) (o : OpCode) → length held ≤ length a →
+    suc (length (held ++ [])) ≤ length (t ++ o ∷ a)
 test_le held t a o le = omega (arith, length-append held [], length-append t (o ∷ a))
 
-branch_le : (held more : List Step) (t a b : List OpCode) (o j : OpCode) → length held ≤ length a → length more ≤ length b → suc (length (held ++ (more ++ []))) ≤ length (t ++ o ∷ (a ++ j ∷ b))
+branch_le : (held more : List Step) (t a b : List OpCode) (o j : OpCode) → length held ≤ length a → length more ≤ length b →
+    suc (length (held ++ (more ++ []))) ≤ length (t ++ o ∷ (a ++ j ∷ b))
 branch_le held more t a b o j le other =
-    omega (arith, length-append held (more ++ []), length-append more [], length-append t (o ∷ (a ++ j ∷ b)), length-append a (j ∷ b))
+    omega (
+      arith,
+      length-append held (more ++ []),
+      length-append more [],
+      length-append t (o ∷ (a ++ j ∷ b)),
+      length-append a (j ∷ b),
+    )
 
-loop_le : (held : List Step) (t b : List OpCode) (o k j : OpCode) → length held ≤ length b → suc (length (held ++ [])) ≤ length (t ++ o ∷ k ∷ (b ++ j ∷ []))
+loop_le : (held : List Step) (t b : List OpCode) (o k j : OpCode) → length held ≤ length b →
+    suc (length (held ++ [])) ≤ length (t ++ o ∷ k ∷ (b ++ j ∷ []))
 loop_le held t b o k j le =
     omega (arith, length-append held [], length-append t (o ∷ k ∷ (b ++ j ∷ [])), length-append b (j ∷ []))
 
@@ -78,8 +91,12 @@ module _ (p : Protocol) (names : List Name) where
   first_covers s stmts l d one rest at r h =
       let c = stmt_code p names s at r h in
       let others = code_of p names stmts (at + length c) (r + rests_in c) (h + loops_in c) in
-      let own : length (steps_in (layer_body s.line l)) ≤ length c = subst (λ (f : Piece). length (steps_in (layer_body s.line l)) ≤ length (f at r h)) (sym (by_layer p names s l d)) (one at r h) in
-      both_le (held_in (s ∷ stmts)) (length (steps_in (layer_body s.line l))) (held_in stmts) (length (c ++ others)) (length c) (length others) (held_first s stmts l d) (length-append c others) own (rest (at + length c) (r + rests_in c) (h + loops_in c))
+      let own : length (steps_in (layer_body s.line l)) ≤ length c =
+      subst (λ (f : Piece). length (steps_in (layer_body s.line l)) ≤ length (f at r h)) (sym (by_layer p names s l d))
+      (one at r h) in
+      both_le (held_in (s ∷ stmts)) (length (steps_in (layer_body s.line l))) (held_in stmts) (length (c ++ others)) (length c)
+      (length others) (held_first s stmts l d) (length-append c others) own
+      (rest (at + length c) (r + rests_in c) (h + loops_in c))
 
   plain_covered : (line : ℕ) (l : Layer) (o : OpCode) → plain_op l ≡ Some o → Covered line l
   unfolding Covered layer_code
@@ -101,9 +118,11 @@ module _ (p : Protocol) (names : List Name) where
   covers : {stmts : List Stmt} → Fine p names stmts → Covers stmts
   unfolding Covers Covered layer_code
   covers fine.none = λ at r h. le_refl 0
-  covers (fine.plain {s = s} {rest = stmts} {o = o} e x) = first_covers s stmts (what_of s) refl (plain_covered s.line (what_of s) o e) (covers x)
+  covers (fine.plain {s = s} {rest = stmts} {o = o} e x) = first_covers s stmts (what_of s) refl
+      (plain_covered s.line (what_of s) o e) (covers x)
   covers (fine.assigns {s = s} {rest = stmts} {name = name} {e = e} {o = o} d put x) =
-      first_covers s stmts _ d (λ at r h. subst (λ q. 1 ≤ length (expr_code p names e ++ op_list q)) (sym put) (last_le (expr_code p names e) o)) (covers x)
+      first_covers s stmts _ d (λ at r h. subst (λ q. 1 ≤ length (expr_code p names e ++ op_list q)) (sym put)
+      (last_le (expr_code p names e) o)) (covers x)
   covers (fine.tests {s = s} {rest = stmts} {first = first} {e = e} d x y) =
       first_covers s stmts _ d (λ at r h.
       let t = expr_code p names e in
@@ -115,20 +134,26 @@ module _ (p : Protocol) (names : List Name) where
       let start = at + length t + 1 in
       let a = code_of p names first start r h in
       let to = start + length a + 1 in
-      branch_le (steps_in (body_of first)) (steps_in (body_of second)) t a (code_of p names second to (r + rests_in a) (h + loops_in a)) _ _ (covers x start r h) (covers y to (r + rests_in a) (h + loops_in a))) (covers z)
+      branch_le (steps_in (body_of first)) (steps_in (body_of second)) t a
+      (code_of p names second to (r + rests_in a) (h + loops_in a)) _ _ (covers x start r h)
+      (covers y to (r + rests_in a) (h + loops_in a))) (covers z)
   covers (fine.sends {s = s} {rest = stmts} {to = to} {name = name} {args = args} d c x) =
-      first_covers s stmts _ d (λ at r h. send_le (expr_code p names to) (all_code p names args) (op.Send (declared (message_number p name)))) (covers x)
+      first_covers s stmts _ d (λ at r h. send_le (expr_code p names to) (all_code p names args)
+      (op.Send (declared (message_number p name)))) (covers x)
   covers (fine.sends_all {s = s} {rest = stmts} {to = to} {name = name} {args = args} d c x) =
-      first_covers s stmts _ d (λ at r h. send_le (expr_code p names to) (all_code p names args) (op.SendAll (declared (message_number p name)))) (covers x)
+      first_covers s stmts _ d (λ at r h. send_le (expr_code p names to) (all_code p names args)
+      (op.SendAll (declared (message_number p name)))) (covers x)
   covers (fine.moves {s = s} {rest = stmts} {name = name} {args = args} d c x) =
       first_covers s stmts _ d (λ at r h. last_le (all_code p names args) (op.Goto (declared (state_number p name)))) (covers x)
   covers (fine.suspends {s = s} {rest = stmts} {label = label} {name = name} {passed = passed} {args = args} d c x) =
-      first_covers s stmts _ d (λ at r h. last_le (all_code p names args) (op.Suspend (declared (state_number p name)) r)) (covers x)
+      first_covers s stmts _ d (λ at r h. last_le (all_code p names args) (op.Suspend (declared (state_number p name)) r))
+      (covers x)
   covers (fine.loops {s = s} {rest = stmts} {body = body} {x = x} {e = e} {k = k} d a y z) =
       first_covers s stmts _ d (λ at r h.
       let t = expr_code p names e in
       let start = at + length t + 1 in
-      loop_le (steps_in (body_of body)) t (code_of p names body (start + 1) r (h + 1)) _ _ _ (covers y (start + 1) r (h + 1))) (covers z)
+      loop_le (steps_in (body_of body)) t (code_of p names body (start + 1) r (h + 1)) _ _ _ (covers y (start + 1) r (h + 1)))
+      (covers z)
   covers (fine.resumes {s = s} {rest = stmts} d x) = first_covers s stmts _ d (λ at r h. le_refl 1) (covers x)
   covers (fine.fails {s = s} {rest = stmts} d x) = first_covers s stmts _ d (λ at r h. le_refl 1) (covers x)
 
@@ -138,7 +163,8 @@ module _ (p : Protocol) (names : List Name) where
 
 -- ---- handlers
 
-part_le : (n held : ℕ) (body others : List OpCode) (o : OpCode) → held ≤ length body → length ((body ++ o ∷ []) ++ others) ≤ n → (held ≤ n) × (length others ≤ n)
+part_le : (n held : ℕ) (body others : List OpCode) (o : OpCode) → held ≤ length body →
+    length ((body ++ o ∷ []) ++ others) ≤ n → (held ≤ n) × (length others ≤ n)
 part_le n held body others o le room =
     let all = length-append (body ++ o ∷ []) others in
     let own = length-append body (o ∷ []) in
@@ -147,7 +173,8 @@ part_le n held body others o le room =
 abbrev Holds : ℕ → Handler → Type 0
 Holds n h = length (steps_in (body_of h.body)) ≤ n
 
-entries_hold : (p : Protocol) (n : ℕ) (entries : List Entry) → AllFine p entries → (at r h : ℕ) → length (in_order (map (entry_code p) entries) at r h) ≤ n → Each (λ (d : Entry). Holds n d.handler) entries
+entries_hold : (p : Protocol) (n : ℕ) (entries : List Entry) → AllFine p entries → (at r h : ℕ) →
+    length (in_order (map (entry_code p) entries) at r h) ≤ n → Each (λ (d : Entry). Holds n d.handler) entries
 entries_hold p n [] all at r h room = tt
 entries_hold p n (d ∷ entries) all at r h room =
     let names = names_in d.state d.handler in
@@ -157,14 +184,19 @@ entries_hold p n (d ∷ entries) all at r h room =
     let parts = part_le n (held_in d.handler.body) body others op.Done (covered p names all.0 at r (length names)) room in
     (parts.0, entries_hold p n entries all.1 (at + length c) (r + rests_in c) (h + loops_in c) parts.1)
 
-state_holds : (P : Handler → Type 0) (number : ℕ) (s : State) (hs : List Handler) (entries : List Entry) (more : List Handler) → (Each (λ (d : Entry). P d.handler) entries → Each P more) → Each (λ (d : Entry). P d.handler) (map (λ h. record { number = number; state = s; handler = h }) hs ++ entries) → Each P (hs ++ more)
+state_holds : (P : Handler → Type 0) (number : ℕ) (s : State) (hs : List Handler) (entries : List Entry)
+    (more : List Handler) → (Each (λ (d : Entry). P d.handler) entries → Each P more) →
+    Each (λ (d : Entry). P d.handler) (map (λ h. record { number = number; state = s; handler = h }) hs ++ entries) →
+    Each P (hs ++ more)
 state_holds P number s [] entries more f all = f all
 state_holds P number s (h ∷ hs) entries more f all = (all.0, state_holds P number s hs entries more f all.1)
 
-states_hold : (P : Handler → Type 0) (number : ℕ) (states : List State) → Each (λ (d : Entry). P d.handler) (entries_from number states) → Each P (flat_map (λ (s : State). s.handlers) states)
+states_hold : (P : Handler → Type 0) (number : ℕ) (states : List State) →
+    Each (λ (d : Entry). P d.handler) (entries_from number states) → Each P (flat_map (λ (s : State). s.handlers) states)
 states_hold P number [] all = tt
 states_hold P number (s ∷ states) all =
-    state_holds P number s s.handlers (entries_from (number + 1) states) (flat_map (λ (t : State). t.handlers) states) (states_hold P (number + 1) states) all
+    state_holds P number s s.handlers (entries_from (number + 1) states) (flat_map (λ (t : State). t.handlers) states)
+    (states_hold P (number + 1) states) all
 
 pub held : (p : Protocol) (code : Code) → IsAccepted p → IsCode p code → HoldAtMost (length code.ops) p
 held p code a compiled =

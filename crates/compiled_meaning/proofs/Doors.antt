@@ -1,5 +1,6 @@
 -- The door for a message is that of the handler that answers it.
-use Rattle.std.proofs.Common.{◌≡◌, ◌∙◌, ℕ, zero, suc, ◌+◌, ◌<◌, Bool, true, false, List, [], ◌∷◌, ◌++◌, Option, Some, None, length, length-append, refl, ap, subst, arith, inl, inr, ◌⊎◌}
+use Rattle.std.proofs.Common.{◌≡◌, ◌∙◌, ℕ, zero, suc, ◌+◌, ◌<◌, Bool, true, false, List, [], ◌∷◌, ◌++◌, Option, Some, None}
+use Rattle.std.proofs.Common.{length, length-append, refl, ap, subst, arith, inl, inr, ◌⊎◌}
 use Rattle.std.specs.Prelude.{cond, find, is_none, is_some, map, slice_get, ◌&&◌, ◌==◌, Contains}
 use Rattle.std.specs.Str.{bytes_eq}
 use Rattle.std.proofs.lemmas.Bool.{eq-eqb, eqb-true, ne_eqb}
@@ -23,7 +24,8 @@ use Rattle.handler_code.specs.declared.code.Door.{Door}
 use Rattle.handler_code.specs.declared.code.Kind2.{Kind2}
 use Rattle.handler_code.specs.declared.code.Kind2.TheVariants as on
 use Rattle.handler_code.specs.declared.code.OpCode.{OpCode}
-use Rattle.handler_code.specs.Doors.{door_for, door_or, handlers_at, is_for, is_for_all_else, kind_of, locals_at, locals_of, same_kind}
+use Rattle.handler_code.specs.Doors.{door_for, door_or, handlers_at, is_for, is_for_all_else, kind_of, locals_at, locals_of}
+use Rattle.handler_code.specs.Doors.{same_kind}
 use Rattle.compiled_meaning.specs.Compiled.{in_order, loops_in, rests_in}
 use Rattle.compiled_meaning.specs.Whole.{Entry, IsCode, door_of, doors_from, entries_code, entries_from, entries_of, entry_code}
 use Rattle.compiled_meaning.proofs.Accepted.{contains_first, contains_later, some_of}
@@ -53,33 +55,44 @@ abbrev pub of_state : ℕ → (Handler → Bool) → Entry → Bool
 of_state number w d = (d.number == number) && w d.handler
 
 module _ (number : ℕ) (w : Handler → Bool) where
-  in_state : (s : State) (hs : List Handler) (more : List Entry) → find (of_state number w) more ≡ None → find (of_state number w) (map (λ h. entry number s h) hs ++ more) ≡ found_entry number s (find w hs)
+  in_state : (s : State) (hs : List Handler) (more : List Entry) → find (of_state number w) more ≡ None →
+      find (of_state number w) (map (λ h. entry number s h) hs ++ more) ≡ found_entry number s (find w hs)
   in_state s [] more none = none
   in_state s (h ∷ hs) more none =
-      ap (λ b. cond (b && w h) (Some (entry number s h)) (find (of_state number w) (map (λ x. entry number s x) hs ++ more))) (eq-eqb number number refl) ∙ by_test (w h) (in_state s hs more none)
+      ap (λ b. cond (b && w h) (Some (entry number s h)) (find (of_state number w) (map (λ x. entry number s x) hs ++ more)))
+      (eq-eqb number number refl) ∙ by_test (w h) (in_state s hs more none)
     where
-      by_test : (b : Bool) → find (of_state number w) (map (λ x. entry number s x) hs ++ more) ≡ found_entry number s (find w hs) → cond (true && b) (Some (entry number s h)) (find (of_state number w) (map (λ x. entry number s x) hs ++ more)) ≡ found_entry number s (cond b (Some h) (find w hs))
+      by_test : (b : Bool) → find (of_state number w) (map (λ x. entry number s x) hs ++ more)
+          ≡ found_entry number s (find w hs) → cond (true && b) (Some (entry number s h))
+          (find (of_state number w) (map (λ x. entry number s x) hs ++ more))
+          ≡ found_entry number s (cond b (Some h) (find w hs))
       by_test true e = refl
       by_test false e = e
 
-  past_state : (n : ℕ) (s : State) (hs : List Handler) (more : List Entry) → (n ≡ number → ⊥) → find (of_state number w) (map (λ h. entry n s h) hs ++ more) ≡ find (of_state number w) more
+  past_state : (n : ℕ) (s : State) (hs : List Handler) (more : List Entry) → (n ≡ number → ⊥) →
+      find (of_state number w) (map (λ h. entry n s h) hs ++ more) ≡ find (of_state number w) more
   past_state n s [] more d = refl
   past_state n s (h ∷ hs) more d =
-      ap (λ b. cond (b && w h) (Some (entry n s h)) (find (of_state number w) (map (λ x. entry n s x) hs ++ more))) (ne_eqb n number d) ∙ past_state n s hs more d
+      ap (λ b. cond (b && w h) (Some (entry n s h)) (find (of_state number w) (map (λ x. entry n s x) hs ++ more)))
+      (ne_eqb n number d) ∙ past_state n s hs more d
 
   none_above : (n : ℕ) (states : List State) → number < n → find (of_state number w) (entries_from n states) ≡ None
   none_above n [] lt = refl
   none_above n (s ∷ states) lt =
       past_state n s s.handlers (entries_from (n + 1) states) (λ e. omega arith) ∙ none_above (n + 1) states (omega arith)
 
-  pub in_entries : (n j : ℕ) (states : List State) (s : State) → slice_get states j ≡ Some s → number ≡ n + j → find (of_state number w) (entries_from n states) ≡ found_entry number s (find w s.handlers)
+  pub in_entries : (n j : ℕ) (states : List State) (s : State) → slice_get states j ≡ Some s → number ≡ n + j →
+      find (of_state number w) (entries_from n states) ≡ found_entry number s (find w s.handlers)
   in_entries n j [] s e q = cc
   in_entries n zero (x ∷ xs) s e q =
       let same : s ≡ x = cc in
       let here : number ≡ n = omega arith in
       let more = entries_from (n + 1) xs in
       let there = in_state s s.handlers more (none_above (n + 1) xs (omega arith)) in
-      subst (λ y. find (of_state number w) (map (λ h. entry n y h) y.handlers ++ more) ≡ found_entry number s (find w s.handlers)) same (subst (λ k. find (of_state number w) (map (λ h. entry k s h) s.handlers ++ more) ≡ found_entry number s (find w s.handlers)) here there)
+      subst (λ y. find (of_state number w) (map (λ h. entry n y h) y.handlers ++ more)
+      ≡ found_entry number s (find w s.handlers)) same (subst
+      (λ k. find (of_state number w) (map (λ h. entry k s h) s.handlers ++ more)
+      ≡ found_entry number s (find w s.handlers)) here there)
   in_entries n (suc j) (x ∷ xs) s e q =
       past_state n x x.handlers (entries_from (n + 1) xs) (λ f. omega arith) ∙ in_entries (n + 1) j xs s e (omega arith)
 
@@ -96,19 +109,28 @@ pub record DoorStands (p : Protocol) (f : Door → Bool) (entries : List Entry) 
   pub rest-is : rest ≡ r + rests_in (in_order (map (entry_code p) before) at r h)
   pub found : find f (doors_from p at r entries) ≡ Some (door_of p d place (entry_code p d place rest 0))
 
-module _ (p : Protocol) (f : Door → Bool) (g : Entry → Bool) (same : (d : Entry) (at : ℕ) (ops : List OpCode) → f (door_of p d at ops) ≡ g d) where
+module _ (p : Protocol) (f : Door → Bool) (g : Entry → Bool)
+    (same : (d : Entry) (at : ℕ) (ops : List OpCode) → f (door_of p d at ops) ≡ g d) where
   pub door_found : (entries : List Entry) (d : Entry) (at r h : ℕ) → find g entries ≡ Some d → DoorStands p f entries d at r h
   door_found [] d at r h e = cc
   door_found (b ∷ entries) d at r h e =
-      by_test (g b) refl e (door_found entries d (at + length (entry_code p b at r h)) (r + rests_in (entry_code p b at r h)) (h + loops_in (entry_code p b at r h)))
+      by_test (g b) refl e (door_found entries d (at + length (entry_code p b at r h)) (r + rests_in (entry_code p b at r h))
+      (h + loops_in (entry_code p b at r h)))
     where
       c : List OpCode
       c = entry_code p b at r h
 
-      first : (q : Bool) → g b ≡ q → find f (doors_from p at r (b ∷ entries)) ≡ cond q (Some (door_of p b at (entry_code p b at r h))) (find f (doors_from p (at + length (entry_code p b at r h)) (r + rests_in (entry_code p b at r h)) entries))
-      first q k = ap (λ z. cond z (Some (door_of p b at (entry_code p b at r h))) (find f (doors_from p (at + length (entry_code p b at r h)) (r + rests_in (entry_code p b at r h)) entries))) (same b at (entry_code p b at r h) ∙ k)
+      first : (q : Bool) → g b ≡ q → find f (doors_from p at r (b ∷ entries))
+          ≡ cond q (Some (door_of p b at (entry_code p b at r h)))
+          (find f (doors_from p (at + length (entry_code p b at r h)) (r + rests_in (entry_code p b at r h)) entries))
+      first q k =
+          ap (λ z. cond z (Some (door_of p b at (entry_code p b at r h)))
+          (find f (doors_from p (at + length (entry_code p b at r h)) (r + rests_in (entry_code p b at r h)) entries)))
+          (same b at (entry_code p b at r h) ∙ k)
 
-      by_test : (q : Bool) → g b ≡ q → cond q (Some b) (find g entries) ≡ Some d → (find g entries ≡ Some d → DoorStands p f entries d (at + length (entry_code p b at r h)) (r + rests_in (entry_code p b at r h)) (h + loops_in (entry_code p b at r h))) → DoorStands p f (b ∷ entries) d at r h
+      by_test : (q : Bool) → g b ≡ q → cond q (Some b) (find g entries) ≡ Some d →
+          (find g entries ≡ Some d → DoorStands p f entries d (at + length (entry_code p b at r h))
+          (r + rests_in (entry_code p b at r h)) (h + loops_in (entry_code p b at r h))) → DoorStands p f (b ∷ entries) d at r h
       by_test true k e more =
           let is : b ≡ d = cc in
           let here : DoorStands p f (b ∷ entries) b at r h = record {
@@ -142,10 +164,15 @@ module _ (p : Protocol) (f : Door → Bool) (g : Entry → Bool) (same : (d : En
   no_door (b ∷ entries) at r e =
       by_test (g b) refl e (no_door entries (at + length (entry_code p b at r 0)) (r + rests_in (entry_code p b at r 0)))
     where
-      by_test : (q : Bool) → g b ≡ q → cond q (Some b) (find g entries) ≡ None → (find g entries ≡ None → find f (doors_from p (at + length (entry_code p b at r 0)) (r + rests_in (entry_code p b at r 0)) entries) ≡ None) → find f (doors_from p at r (b ∷ entries)) ≡ None
+      by_test : (q : Bool) → g b ≡ q → cond q (Some b) (find g entries) ≡ None →
+          (find g entries ≡ None →
+          find f (doors_from p (at + length (entry_code p b at r 0)) (r + rests_in (entry_code p b at r 0)) entries) ≡ None) →
+          find f (doors_from p at r (b ∷ entries)) ≡ None
       by_test true k e more = cc
       by_test false k e more =
-          ap (λ z. cond z (Some (door_of p b at (entry_code p b at r 0))) (find f (doors_from p (at + length (entry_code p b at r 0)) (r + rests_in (entry_code p b at r 0)) entries))) (same b at (entry_code p b at r 0) ∙ k) ∙ more e
+          ap (λ z. cond z (Some (door_of p b at (entry_code p b at r 0)))
+          (find f (doors_from p (at + length (entry_code p b at r 0)) (r + rests_in (entry_code p b at r 0)) entries)))
+          (same b at (entry_code p b at r 0) ∙ k) ∙ more e
 
 -- ---- kinds
 
@@ -222,22 +249,29 @@ pub record DoorOf (p : Protocol) (code : Code) (k : Kind) (number : ℕ) (s : St
   pub after : List Entry
   pub door : Door
   pub are : entries_of p ≡ before ++ entry number s h ∷ after
-  pub door-is : door ≡ door_of p (entry number s h) (length (entries_code p before)) (entry_code p (entry number s h) (length (entries_code p before)) (rests_in (entries_code p before)) 0)
+  pub door-is : door ≡ door_of p (entry number s h) (length (entries_code p before))
+      (entry_code p (entry number s h) (length (entries_code p before)) (rests_in (entries_code p before)) 0)
   pub found : door_for code number k ≡ Some door
   pub locals : locals_of p door ≡ h.locals
 
-module _ (p : Protocol) (code : Code) (a : IsAccepted p) (compiled : IsCode p code) (k : Kind) (number : ℕ) (s : State) (is_state : slice_get p.states number ≡ Some s) where
+module _ (p : Protocol) (code : Code) (a : IsAccepted p) (compiled : IsCode p code) (k : Kind) (number : ℕ) (s : State)
+    (is_state : slice_get p.states number ≡ Some s) where
   is_declared : (h : Handler) → Contains s.handlers h → answers_undeclared p h.on ≡ false
   is_declared h c =
-      is_false _ (λ e. a.keeps h.line Undeclared (inr (in_handler p s h (λ c. AtHandler (answers_undeclared p c.handler.on) c h.line ⊎ AtStep uses_undeclared c h.line) (slice_has p.states number s is_state) c (inl (refl, e)))))
+      is_false _
+      (λ e. a.keeps h.line Undeclared
+      (inr (in_handler p s h (λ c. AtHandler (answers_undeclared p c.handler.on) c h.line
+      ⊎ AtStep uses_undeclared c h.line) (slice_has p.states number s is_state) c (inl (refl, e)))))
 
   own_alike : find (λ h. is_for k (kind_of p h.on)) s.handlers ≡ find (λ h. answers p k h.on) s.handlers
   own_alike =
-      find_alike (λ h. is_for k (kind_of p h.on)) (λ h. answers p k h.on) s.handlers (each_from _ s.handlers (λ h c. alike_on p k h.on (is_declared h c)))
+      find_alike (λ h. is_for k (kind_of p h.on)) (λ h. answers p k h.on) s.handlers
+      (each_from _ s.handlers (λ h c. alike_on p k h.on (is_declared h c)))
 
   default_alike : find (λ h. is_for_all_else (kind_of p h.on)) s.handlers ≡ default_of s
   default_alike =
-      find_alike (λ h. is_for_all_else (kind_of p h.on)) (λ h. is_default h.on) s.handlers (each_from _ s.handlers (λ h c. else_alike p h.on))
+      find_alike (λ h. is_for_all_else (kind_of p h.on)) (λ h. is_default h.on) s.handlers
+      (each_from _ s.handlers (λ h c. else_alike p h.on))
 
   own_test : Door → Bool
   own_test d = (d.state == number) && is_for k d.on
@@ -246,15 +280,25 @@ module _ (p : Protocol) (code : Code) (a : IsAccepted p) (compiled : IsCode p co
   else_test d = (d.state == number) && is_for_all_else d.on
 
   -- a door that a test finds, when it finds the handler
-  by_handler : (f : Door → Bool) (w : Handler → Bool) → ((d : Entry) (at : ℕ) (ops : List OpCode) → f (door_of p d at ops) ≡ of_state number w d) → (h : Handler) → find w s.handlers ≡ Some h → DoorStands p f (entries_of p) (entry number s h) 0 0 0
+  by_handler : (f : Door → Bool) (w : Handler → Bool) → ((d : Entry) (at : ℕ) (ops : List OpCode) →
+      f (door_of p d at ops) ≡ of_state number w d) → (h : Handler) → find w s.handlers ≡ Some h →
+      DoorStands p f (entries_of p) (entry number s h) 0 0 0
   by_handler f w same h e =
-      door_found p f (of_state number w) same (entries_of p) (entry number s h) 0 0 0 (in_entries number w 0 number p.states s is_state (omega arith) ∙ ap (found_entry number s) e)
+      door_found p f (of_state number w) same (entries_of p) (entry number s h) 0 0 0
+      (in_entries number w 0 number p.states s is_state (omega arith) ∙ ap (found_entry number s) e)
 
-  none_by_handler : (f : Door → Bool) (w : Handler → Bool) → ((d : Entry) (at : ℕ) (ops : List OpCode) → f (door_of p d at ops) ≡ of_state number w d) → find w s.handlers ≡ None → find f code.doors ≡ None
+  none_by_handler : (f : Door → Bool) (w : Handler → Bool) →
+      ((d : Entry) (at : ℕ) (ops : List OpCode) → f (door_of p d at ops) ≡ of_state number w d) → find w s.handlers ≡ None →
+      find f code.doors ≡ None
   none_by_handler f w same e =
-      ap (find f) compiled.doors ∙ no_door p f (of_state number w) same (entries_of p) 0 0 (in_entries number w 0 number p.states s is_state (omega arith) ∙ ap (found_entry number s) e)
+      ap (find f) compiled.doors ∙ no_door p f (of_state number w) same (entries_of p) 0 0
+      (in_entries number w 0 number p.states s is_state (omega arith) ∙ ap (found_entry number s) e)
 
-  made : (f : Door → Bool) (h : Handler) (d : DoorStands p f (entries_of p) (entry number s h) 0 0 0) → (find f code.doors ≡ Some (door_of p (entry number s h) d.place (entry_code p (entry number s h) d.place d.rest 0)) → door_for code number k ≡ Some (door_of p (entry number s h) d.place (entry_code p (entry number s h) d.place d.rest 0))) → find (λ x. same_kind (kind_of p x.on) (kind_of p h.on)) s.handlers ≡ Some h → DoorOf p code k number s h
+  made : (f : Door → Bool) (h : Handler) (d : DoorStands p f (entries_of p) (entry number s h) 0 0 0) →
+      (find f code.doors ≡ Some (door_of p (entry number s h) d.place (entry_code p (entry number s h) d.place d.rest 0)) →
+      door_for code number k
+      ≡ Some (door_of p (entry number s h) d.place (entry_code p (entry number s h) d.place d.rest 0))) →
+      find (λ x. same_kind (kind_of p x.on) (kind_of p h.on)) s.handlers ≡ Some h → DoorOf p code k number s h
   made f h d chosen same =
       let x = entry number s h in
       let place : d.place ≡ length (entries_code p d.before) = omega (arith, d.place-is) in
@@ -264,27 +308,34 @@ module _ (p : Protocol) (code : Code) (a : IsAccepted p) (compiled : IsCode p co
         after = d.after;
         door = door_of p x d.place (entry_code p x d.place d.rest 0);
         are = d.are;
-        door-is = ap (λ q. door_of p x q (entry_code p x q d.rest 0)) place ∙ ap (λ q. door_of p x (length (entries_code p d.before)) (entry_code p x (length (entries_code p d.before)) q 0)) rest;
+        door-is = ap (λ q. door_of p x q (entry_code p x q d.rest 0)) place
+            ∙ ap (λ q. door_of p x (length (entries_code p d.before)) (entry_code p x (length (entries_code p d.before)) q 0))
+            rest;
         found = chosen (ap (find f) compiled.doors ∙ d.found);
-        locals = ap (λ o. locals_at (find (λ y. same_kind (kind_of p y.on) (kind_of p h.on)) (handlers_at o))) is_state ∙ ap locals_at same;
+        locals = ap (λ o. locals_at (find (λ y. same_kind (kind_of p y.on) (kind_of p h.on)) (handlers_at o))) is_state
+            ∙ ap locals_at same;
       }
 
   pub door_of_handler : (h : Handler) → handler_in p k s ≡ Some h → DoorOf p code k number s h
   unfolding handler_in own_test else_test
   door_of_handler h e = by_own (find (λ x. answers p k x.on) s.handlers) refl e
     where
-      by_own : (o : Option Handler) → find (λ x. answers p k x.on) s.handlers ≡ o → own_or o (default_of s) ≡ Some h → DoorOf p code k number s h
+      by_own : (o : Option Handler) → find (λ x. answers p k x.on) s.handlers ≡ o → own_or o (default_of s) ≡ Some h →
+          DoorOf p code k number s h
       by_own (Some x) f e =
           let is : x ≡ h = cc in
           let own : find (λ y. is_for k (kind_of p y.on)) s.handlers ≡ Some h = own_alike ∙ f ∙ ap Some is in
           let d = by_handler own_test (λ y. is_for k (kind_of p y.on)) (λ d at ops. refl) h own in
           let holds = find_holds (λ y. is_for k (kind_of p y.on)) s.handlers h own in
-          let same = find_alike (λ y. same_kind (kind_of p y.on) (kind_of p h.on)) (λ y. is_for k (kind_of p y.on)) s.handlers (each_from _ s.handlers (λ y c. same_for k (kind_of p y.on) (kind_of p h.on) holds)) in
+          let same = find_alike (λ y. same_kind (kind_of p y.on) (kind_of p h.on)) (λ y. is_for k (kind_of p y.on)) s.handlers
+          (each_from _ s.handlers (λ y c. same_for k (kind_of p y.on) (kind_of p h.on) holds)) in
           made own_test h d (λ q. ap (λ o. door_or o (find else_test code.doors)) q) (same ∙ own)
       by_own None f e =
           let none = none_by_handler own_test (λ y. is_for k (kind_of p y.on)) (λ d at ops. refl) (own_alike ∙ f) in
           let other : find (λ y. is_for_all_else (kind_of p y.on)) s.handlers ≡ Some h = default_alike ∙ e in
           let d = by_handler else_test (λ y. is_for_all_else (kind_of p y.on)) (λ d at ops. refl) h other in
           let holds = find_holds (λ y. is_for_all_else (kind_of p y.on)) s.handlers h other in
-          let same = find_alike (λ y. same_kind (kind_of p y.on) (kind_of p h.on)) (λ y. is_for_all_else (kind_of p y.on)) s.handlers (each_from _ s.handlers (λ y c. same_else (kind_of p y.on) (kind_of p h.on) holds)) in
+          let same = find_alike (λ y. same_kind (kind_of p y.on) (kind_of p h.on))
+          (λ y. is_for_all_else (kind_of p y.on)) s.handlers
+          (each_from _ s.handlers (λ y c. same_else (kind_of p y.on) (kind_of p h.on) holds)) in
           made else_test h d (λ q. ap (λ o. door_or o (find else_test code.doors)) none ∙ q) (same ∙ other)

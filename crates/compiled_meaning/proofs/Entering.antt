@@ -1,5 +1,6 @@
 -- What a message means at a block, the code does, and soon.
-use Rattle.std.proofs.Common.{◌≡◌, ◌∙◌, ℕ, zero, suc, ◌+◌, ◌*◌, ◌-◌, ◌<◌, ◌≤◌, true, List, [], ◌∷◌, ◌++◌, Some, length, length-append, refl, ap, sym, subst, arith, inl, inr, ◌⊎◌}
+use Rattle.std.proofs.Common.{◌≡◌, ◌∙◌, ℕ, zero, suc, ◌+◌, ◌*◌, ◌-◌, ◌<◌, ◌≤◌, true, List, [], ◌∷◌, ◌++◌, Some, length}
+use Rattle.std.proofs.Common.{length-append, refl, ap, sym, subst, arith, inl, inr, ◌⊎◌}
 use Rattle.std.specs.Prelude.{codes, map, replicate, take, Contains}
 use Rattle.std.specs.Str.{bytes_eq}
 use Rattle.std.proofs.lemmas.List.{length-map}
@@ -86,7 +87,8 @@ taken_as p (kind.Named n) t.RdFault e = cc
 taken_as p (kind.Named n) t.WrFault e = cc
 taken_as p (kind.Named n) t.Default e = cc
 
-all_taken : (p : Protocol) (k : Kind) (on : Trigger) (m : Message) → answers p k on ≡ true → args_taken (kind_of p on) m ≡ take m.arg_count m.args
+all_taken : (p : Protocol) (k : Kind) (on : Trigger) (m : Message) → answers p k on ≡ true →
+    args_taken (kind_of p on) m ≡ take m.arg_count m.args
 all_taken p k t.RdFault m e = refl
 all_taken p k t.WrFault m e = refl
 all_taken p k (t.Named name) m e = refl
@@ -94,13 +96,18 @@ all_taken p kind.RdFault t.Default m e = cc
 all_taken p kind.WrFault t.Default m e = cc
 all_taken p (kind.Named n) t.Default m e = cc
 
-args_values : (p : Protocol) (k : Kind) (on : Trigger) (ns : List Name) (count : ℕ) (m : Message) → (answers p k on ≡ true) ⊎ (is_default on ≡ true) → Takes p on ns count (take m.arg_count m.args) m.payload → IsOf p count k (take m.arg_count m.args) m.payload → values_of (bound ns (take m.arg_count m.args)) ≡ args_taken (kind_of p on) m
+args_values : (p : Protocol) (k : Kind) (on : Trigger) (ns : List Name) (count : ℕ) (m : Message) →
+    (answers p k on ≡ true) ⊎ (is_default on ≡ true) → Takes p on ns count (take m.arg_count m.args) m.payload →
+    IsOf p count k (take m.arg_count m.args) m.payload → values_of (bound ns (take m.arg_count m.args))
+    ≡ args_taken (kind_of p on) m
 args_values p k on ns count m (inl e) takes is =
     let xs = take m.arg_count m.args in
     let given : length xs ≡ length (args_of (declared_as p k)) = sym (length-map xs type_of) ∙ ap length is.types in
     let named : length (bound ns xs) ≡ length ns = sym (length-map (bound ns xs) (λ b. b.name)) ∙ ap length takes.named in
-    let typed : length (bound ns xs) ≡ length (args_of (taken_message p on)) = sym (length-map (bound ns xs) (λ b. type_of b.value)) ∙ ap length takes.typed in
-    let alike : length (args_of (taken_message p on)) ≡ length (args_of (declared_as p k)) = ap (λ o. length (args_of o)) (taken_as p k on e) in
+    let typed : length (bound ns xs) ≡ length (args_of (taken_message p on)) =
+    sym (length-map (bound ns xs) (λ b. type_of b.value)) ∙ ap length takes.typed in
+    let alike : length (args_of (taken_message p on)) ≡ length (args_of (declared_as p k)) =
+    ap (λ o. length (args_of o)) (taken_as p k on e) in
     values_bound ns xs (sym named ∙ typed ∙ alike ∙ sym given) ∙ sym (all_taken p k on m e)
 args_values p k t.Default ns count m (inr e) takes is =
     let xs = take m.arg_count m.args in
@@ -111,10 +118,13 @@ args_values p k (t.Named name) ns count m (inr e) takes is = cc
 
 -- ---- the variables of a handler
 
-module _ (p : Protocol) (s : State) (h : Handler) (here : Here) (m : Message) (count : ℕ) (few : map type_of (out-StateVal here.state).args ≡ types_of s.params) (gets : Takes p h.on h.args count (take m.arg_count m.args) m.payload) where
+module _ (p : Protocol) (s : State) (h : Handler) (here : Here) (m : Message) (count : ℕ)
+    (few : map type_of (out-StateVal here.state).args ≡ types_of s.params)
+    (gets : Takes p h.on h.args count (take m.arg_count m.args) m.payload) where
   alike : length (map (λ (a : Param). a.name) s.params) ≡ length (out-StateVal here.state).args
   alike =
-      length-map s.params (λ (a : Param). a.name) ∙ sym (sym (length-map (out-StateVal here.state).args type_of) ∙ ap length few ∙ length-map s.params (λ (a : Param). a.ty))
+      length-map s.params (λ (a : Param). a.name) ∙ sym (sym (length-map (out-StateVal here.state).args type_of)
+      ∙ ap length few ∙ length-map s.params (λ (a : Param). a.ty))
 
   vars_named : names_of (vars_of s h here m) ≡ names_in s h
   unfolding vars_of
@@ -122,17 +132,24 @@ module _ (p : Protocol) (s : State) (h : Handler) (here : Here) (m : Message) (c
       let ps = map (λ (a : Param). a.name) s.params in
       let xs = (out-StateVal here.state).args in
       let args = bound h.args (take m.arg_count m.args) in
-      let inner : names_of (args ++ map local_of h.locals) ≡ h.args ++ map (λ a. a.name) h.locals = names-append args (map local_of h.locals) ∙ ap (λ l. l ++ names_of (map local_of h.locals)) gets.named ∙ ap (λ l. h.args ++ l) (locals_named h.locals) in
-      ap (λ l. codes "src" ∷ l) (names-append (bound ps xs) (args ++ map local_of h.locals) ∙ ap (λ l. l ++ names_of (args ++ map local_of h.locals)) (bound_named ps xs alike) ∙ ap (λ l. ps ++ l) inner)
+      let inner : names_of (args ++ map local_of h.locals) ≡ h.args ++ map (λ a. a.name) h.locals =
+      names-append args (map local_of h.locals) ∙ ap (λ l. l ++ names_of (map local_of h.locals)) gets.named
+      ∙ ap (λ l. h.args ++ l) (locals_named h.locals) in
+      ap (λ l. codes "src" ∷ l) (names-append (bound ps xs) (args ++ map local_of h.locals)
+      ∙ ap (λ l. l ++ names_of (args ++ map local_of h.locals)) (bound_named ps xs alike) ∙ ap (λ l. ps ++ l) inner)
 
-  vars_valued : (ys : List Value) → values_of (bound h.args (take m.arg_count m.args)) ≡ ys → values_of (vars_of s h here m) ≡ v.Node m.from ∷ ((out-StateVal here.state).args ++ (ys ++ zeros_of h.locals))
+  vars_valued : (ys : List Value) → values_of (bound h.args (take m.arg_count m.args)) ≡ ys →
+      values_of (vars_of s h here m) ≡ v.Node m.from ∷ ((out-StateVal here.state).args ++ (ys ++ zeros_of h.locals))
   unfolding vars_of
   vars_valued ys e =
       let ps = map (λ (a : Param). a.name) s.params in
       let xs = (out-StateVal here.state).args in
       let args = bound h.args (take m.arg_count m.args) in
-      let inner : values_of (args ++ map local_of h.locals) ≡ ys ++ zeros_of h.locals = values-append args (map local_of h.locals) ∙ ap (λ l. l ++ values_of (map local_of h.locals)) e ∙ ap (λ l. ys ++ l) (values_locals h.locals) in
-      ap (λ l. v.Node m.from ∷ l) (values-append (bound ps xs) (args ++ map local_of h.locals) ∙ ap (λ l. l ++ values_of (args ++ map local_of h.locals)) (values_bound ps xs alike) ∙ ap (λ l. xs ++ l) inner)
+      let inner : values_of (args ++ map local_of h.locals) ≡ ys ++ zeros_of h.locals =
+      values-append args (map local_of h.locals) ∙ ap (λ l. l ++ values_of (map local_of h.locals)) e
+      ∙ ap (λ l. ys ++ l) (values_locals h.locals) in
+      ap (λ l. v.Node m.from ∷ l) (values-append (bound ps xs) (args ++ map local_of h.locals)
+      ∙ ap (λ l. l ++ values_of (args ++ map local_of h.locals)) (values_bound ps xs alike) ∙ ap (λ l. xs ++ l) inner)
 
 -- ---- slots
 
@@ -149,9 +166,16 @@ filled_by : (n width : ℕ) (xs : List Value) → n ≡ length xs → filled (n 
 filled_by n width xs e =
     let left : n + width - length xs ≡ width = omega (arith, e) in ap (λ k. xs ++ replicate k (v.Int 0)) left
 
-agrees : (ops : List OpCode) (at width : ℕ) (vars : List Bound) → Agrees ops (length (names_of vars) + width) at (values_of vars ++ replicate width (v.Int 0)) vars []
+agrees : (ops : List OpCode) (at width : ℕ) (vars : List Bound) →
+    Agrees ops (length (names_of vars) + width) at (values_of vars ++ replicate width (v.Int 0)) vars []
 agrees ops at width vars = record {
-  sized = omega (arith, length-append (values_of vars) (replicate width (v.Int 0)), length_replicate width (v.Int 0), length-values vars, length_of_names vars);
+  sized = omega (
+    arith,
+    length-append (values_of vars) (replicate width (v.Int 0)),
+    length_replicate width (v.Int 0),
+    length-values vars,
+    length_of_names vars,
+  );
   fits = omega (arith, length_of_names vars);
   nested = omega arith;
   live = λ k lt r. value-front (values_of vars) (replicate width (v.Int 0)) k (omega (arith, length-values vars));
@@ -161,19 +185,28 @@ agrees ops at width vars = record {
 -- ---- the message at the door
 
 -- the message's machine stands at a door before these statements
-record AtDoor (p : Protocol) (code : Code) (here : Here) (cell : Cell) (chain : List Saved) (m : Message) (stmts : List Stmt) (r : Running) : Type 0 where
+record AtDoor (p : Protocol) (code : Code) (here : Here) (cell : Cell) (chain : List Saved) (m : Message) (stmts : List Stmt)
+    (r : Running) : Type 0 where
   door : Door
   is_door : door_for code cell.state m.kind ≡ Some door
   stands : Stands p code (entered p door here.me here.home here.block here.tag here.words cell chain m) stmts r
 
 module _ (p : Protocol) (code : Code) (a : IsAccepted p) (compiled : IsCode p code) where
   -- the code of a handler, from the place of its door on
-  handler_follows : (s : State) (h : Handler) (number : ℕ) (k : Kind) (d : DoorOf p code k number s h) (width : ℕ) → width ≡ loops_in (entry_code p (entry number s h) (length (entries_code p d.before)) (rests_in (entries_code p d.before)) 0) → Follows p (names_in s h) (length (names_in s h) + width) code (length (entries_code p d.before)) h.body []
+  handler_follows : (s : State) (h : Handler) (number : ℕ) (k : Kind) (d : DoorOf p code k number s h) (width : ℕ) →
+      width ≡ loops_in (entry_code p (entry number s h) (length (entries_code p d.before))
+      (rests_in (entries_code p d.before)) 0) → Follows p (names_in s h) (length (names_in s h) + width) code
+      (length (entries_code p d.before)) h.body []
   handler_follows s h number k d width e =
-      let room : loops_in (body_code p d.before (entry number s h)) ≤ width = omega (arith, e, loops_in-append (body_code p d.before (entry number s h)) (op.Done ∷ [])) in
+      let room : loops_in (body_code p d.before (entry number s h)) ≤ width =
+      omega (arith, e, loops_in-append (body_code p d.before (entry number s h)) (op.Done ∷ [])) in
       entry_follows p code compiled (all_fine p a) d.before d.after (entry number s h) d.are width room
 
-  module _ (here : Here) (cell : Cell) (chain : List Saved) (m : Message) (stands : CellStands p code cell chain here) (s : State) (h : Handler) (few : map type_of (out-StateVal here.state).args ≡ types_of s.params) (choice : (answers p m.kind h.on ≡ true) ⊎ (is_default h.on ≡ true)) (gets : Takes p h.on h.args (length here.words) (take m.arg_count m.args) m.payload) (is : IsMessageOf p (length here.words) m) (d : DoorOf p code m.kind (out-StateVal here.state).state s h) where
+  module _ (here : Here) (cell : Cell) (chain : List Saved) (m : Message) (stands : CellStands p code cell chain here)
+      (s : State) (h : Handler) (few : map type_of (out-StateVal here.state).args ≡ types_of s.params)
+      (choice : (answers p m.kind h.on ≡ true) ⊎ (is_default h.on ≡ true))
+      (gets : Takes p h.on h.args (length here.words) (take m.arg_count m.args) m.payload)
+      (is : IsMessageOf p (length here.words) m) (d : DoorOf p code m.kind (out-StateVal here.state).state s h) where
     number : ℕ
     number = (out-StateVal here.state).state
 
@@ -181,7 +214,8 @@ module _ (p : Protocol) (code : Code) (a : IsAccepted p) (compiled : IsCode p co
     place = length (entries_code p d.before)
 
     ops : List OpCode
-    ops = entry_code p (entry (out-StateVal here.state).state s h) (length (entries_code p d.before)) (rests_in (entries_code p d.before)) 0
+    ops = entry_code p (entry (out-StateVal here.state).state s h) (length (entries_code p d.before))
+        (rests_in (entries_code p d.before)) 0
 
     vars : List Bound
     vars = vars_of s h here m
@@ -197,11 +231,15 @@ module _ (p : Protocol) (code : Code) (a : IsAccepted p) (compiled : IsCode p co
         let count-is : d.door.slots ≡ length (names_in s h) + loops_in ops = ap (λ x. x.slots) d.door-is in
         let given = args_values p m.kind h.on h.args (length here.words) m choice gets is in
         let valued = vars_valued p s h here m (length here.words) few gets (args_taken (kind_of p h.on) m) given in
-        let long : length (names_in s h) ≡ length (values_of (vars_of s h here m)) = omega (arith, sym (ap length names), length_of_names (vars_of s h here m), length-values (vars_of s h here m)) in
+        let long : length (names_in s h) ≡ length (values_of (vars_of s h here m)) =
+        omega (arith, sym (ap length names), length_of_names (vars_of s h here m), length-values (vars_of s h here m)) in
         ap (λ n. filled n (v.Node m.from ∷ (cell.args ++ (args_taken d.door.on m ++ zeros_of (locals_of p d.door))))) count-is
-        ∙ ap (λ o. filled (length (names_in s h) + loops_in ops) (v.Node m.from ∷ (cell.args ++ (args_taken o m ++ zeros_of (locals_of p d.door))))) on-is
-        ∙ ap (λ l. filled (length (names_in s h) + loops_in ops) (v.Node m.from ∷ (cell.args ++ (args_taken (kind_of p h.on) m ++ zeros_of l)))) d.locals
-        ∙ ap (λ l. filled (length (names_in s h) + loops_in ops) (v.Node m.from ∷ (l ++ (args_taken (kind_of p h.on) m ++ zeros_of h.locals)))) stands.state.same_args
+        ∙ ap (λ o. filled (length (names_in s h) + loops_in ops)
+        (v.Node m.from ∷ (cell.args ++ (args_taken o m ++ zeros_of (locals_of p d.door))))) on-is
+        ∙ ap (λ l. filled (length (names_in s h) + loops_in ops)
+        (v.Node m.from ∷ (cell.args ++ (args_taken (kind_of p h.on) m ++ zeros_of l)))) d.locals
+        ∙ ap (λ l. filled (length (names_in s h) + loops_in ops)
+        (v.Node m.from ∷ (l ++ (args_taken (kind_of p h.on) m ++ zeros_of h.locals)))) stands.state.same_args
         ∙ ap (filled (length (names_in s h) + loops_in ops)) (sym valued)
         ∙ filled_by (length (names_in s h)) (loops_in ops) (values_of (vars_of s h here m)) long
 
@@ -209,12 +247,15 @@ module _ (p : Protocol) (code : Code) (a : IsAccepted p) (compiled : IsCode p co
     at_door : Machine
     at_door = entered p d.door here.me here.home here.block here.tag here.words cell chain m
 
-    follows : Follows p (names_of (vars_of s h here m)) (length (names_of (vars_of s h here m)) + loops_in ops) code d.door.at h.body []
+    follows : Follows p (names_of (vars_of s h here m)) (length (names_of (vars_of s h here m)) + loops_in ops) code d.door.at
+        h.body []
     unfolding ops
     follows =
         let f = handler_follows s h (out-StateVal here.state).state m.kind d (loops_in ops) refl in
-        let named = subst (λ ns. Follows p ns (length ns + loops_in ops) code (length (entries_code p d.before)) h.body []) (sym names) f in
-        subst (λ q. Follows p (names_of (vars_of s h here m)) (length (names_of (vars_of s h here m)) + loops_in ops) code q h.body []) (sym (ap (λ x. x.at) d.door-is)) named
+        let named = subst (λ ns. Follows p ns (length ns + loops_in ops) code (length (entries_code p d.before)) h.body [])
+        (sym names) f in
+        subst (λ q. Follows p (names_of (vars_of s h here m))
+        (length (names_of (vars_of s h here m)) + loops_in ops) code q h.body []) (sym (ap (λ x. x.at) d.door-is)) named
 
     around : at_door.around ≡ around_of (started s h here m)
     unfolding at_door
@@ -232,7 +273,8 @@ module _ (p : Protocol) (code : Code) (a : IsAccepted p) (compiled : IsCode p co
         loops = [];
         follows = follows;
         carries = record {
-          vars = subst (λ l. Agrees code.ops (length (names_of (vars_of s h here m)) + loops_in ops) d.door.at l (vars_of s h here m) []) (sym slots) (agrees code.ops d.door.at (loops_in ops) (vars_of s h here m));
+          vars = subst (λ l. Agrees code.ops (length (names_of (vars_of s h here m)) + loops_in ops) d.door.at l
+              (vars_of s h here m) []) (sym slots) (agrees code.ops d.door.at (loops_in ops) (vars_of s h here m));
           around = around;
           came = refl;
           state = stands.state;
@@ -240,7 +282,9 @@ module _ (p : Protocol) (code : Code) (a : IsAccepted p) (compiled : IsCode p co
       };
     }
 
-  at_its_door : (here : Here) (cell : Cell) (chain : List Saved) (m : Message) (e : Ended) → Fits p here → IsMessageOf p (length here.words) m → CellStands p code cell chain here → (does : Does p here m e) → AtDoor p code here cell chain m does.handler.body (started does.state does.handler here m)
+  at_its_door : (here : Here) (cell : Cell) (chain : List Saved) (m : Message) (e : Ended) → Fits p here →
+      IsMessageOf p (length here.words) m → CellStands p code cell chain here → (does : Does p here m e) →
+      AtDoor p code here cell chain m does.handler.body (started does.state does.handler here m)
   unfolding fits_below
   at_its_door here cell chain m e fits is stands does =
       let count = length here.words in
@@ -250,7 +294,8 @@ module _ (p : Protocol) (code : Code) (a : IsAccepted p) (compiled : IsCode p co
       let same : fit.state ≡ s = cc (fit.is_state, does.is_state) in
       let i : Contains p.states s = slice_has p.states (out-StateVal here.state).state s does.is_state in
       let took = taker p m.kind s h does.is_handler in
-      let few : map type_of (out-StateVal here.state).args ≡ types_of s.params = subst (λ z. map type_of (out-StateVal here.state).args ≡ types_of z.params) same fit.args in
+      let few : map type_of (out-StateVal here.state).args ≡ types_of s.params =
+      subst (λ z. map type_of (out-StateVal here.state).args ≡ types_of z.params) same fit.args in
       let gets = takes p a m.kind s h count (take m.arg_count m.args) m.payload i took.0 took.1 is in
       let d = door_of_handler p code a compiled m.kind (out-StateVal here.state).state s does.is_state h does.is_handler in
       door_stands here cell chain m stands s h few took.1 gets is d
@@ -272,7 +317,9 @@ module _ (p : Protocol) (code : Code) (a : IsAccepted p) (compiled : IsCode p co
       let same : goes_in.door ≡ x.door = cc (goes_in.is_door, x.is_door) in
       let start : Door → Machine = λ door. entered p door here.me here.home here.block here.tag here.words cell chain m in
       let runs : Runs p code (start x.door) s = subst (λ q. Runs p code (start q) s) same goes_in.runs in
-      let few : s.ops ≤ 0 + ops_a_step code * steps does.goes = takes_few p code once saves_all (start x.door) does.handler.body (started does.state does.handler here m) e s x.stands does.goes runs in
+      let few : s.ops ≤ 0 + ops_a_step code * steps does.goes =
+      takes_few p code once saves_all (start x.door) does.handler.body
+      (started does.state does.handler here m) e s x.stands does.goes runs in
       omega arith
 
 pub meant : (p : Protocol) (code : Code) → IsAccepted p → IsCode p code → DoesWhatIsMeant p code

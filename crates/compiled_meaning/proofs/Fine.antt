@@ -66,5 +66,6 @@ pub data Fine (p : Protocol) (names : List Name) : List Stmt → Type 0 where
       Fine p names rest →
       Fine p names (s ∷ rest)
   plain : {s : Stmt} {rest : List Stmt} {o : OpCode} → plain_op (what_of s) ≡ Some o → Fine p names rest → Fine p names (s ∷ rest)
-  resumes : {s : Stmt} {rest : List Stmt} {name : Name} → what_of s ≡ Do-F.Resume name → Fine p names rest → Fine p names (s ∷ rest)
+  resumes : {s : Stmt} {rest : List Stmt} {name : Name} → what_of s ≡ Do-F.Resume name → Fine p names rest →
+      Fine p names (s ∷ rest)
   fails : {s : Stmt} {rest : List Stmt} {name : Name} → what_of s ≡ Do-F.Error name → Fine p names rest → Fine p names (s ∷ rest)

@@ -1,5 +1,6 @@
 -- The code of a handler in that of its protocol.
-use Rattle.std.proofs.Common.{◌≡◌, ℕ, ◌+◌, ◌<◌, ◌≤◌, List, [], ◌∷◌, ◌++◌, length, Some, refl, sym, ap, subst, arith, ◌∙◌, length-append, append_assoc}
+use Rattle.std.proofs.Common.{◌≡◌, ℕ, ◌+◌, ◌<◌, ◌≤◌, List, [], ◌∷◌, ◌++◌, length, Some, refl, sym, ap, subst, arith, ◌∙◌}
+use Rattle.std.proofs.Common.{length-append, append_assoc}
 use Rattle.std.specs.Prelude.{map}
 use Rattle.std.proofs.Math.Seq.{get_or-append_seam}
 use Rattle.std.proofs.lemmas.Option.{slice_get-get_or}
@@ -77,15 +78,18 @@ split f (b ∷ before) after d at r h =
       same = ap (λ l. c ++ l) s.same ∙ sym (append_assoc c pre (f d s.place s.rest s.loop ++ s.post));
     }
 
-pub all_numbered : (p : Protocol) (entries : List Entry) (at r h : ℕ) → AllFine p entries → NumberedFrom r (in_order (map (entry_code p) entries) at r h)
+pub all_numbered : (p : Protocol) (entries : List Entry) (at r h : ℕ) → AllFine p entries →
+    NumberedFrom r (in_order (map (entry_code p) entries) at r h)
 all_numbered p [] at r h a = tt
 all_numbered p (d ∷ entries) at r h a =
     let names = names_in d.state d.handler in
     let body = code_of p names d.handler.body at r (length names) in
     let c = body ++ op.Done ∷ [] in
-    numbered-append c _ r (numbered-append body (op.Done ∷ []) r (numbers p names a.0 at r (length names)) (tt, tt)) (all_numbered p entries (at + length c) (r + rests_in c) (h + loops_in c) a.1)
+    numbered-append c _ r (numbered-append body (op.Done ∷ []) r (numbers p names a.0 at r (length names)) (tt, tt))
+    (all_numbered p entries (at + length c) (r + rests_in c) (h + loops_in c) a.1)
 
-pub one_fine : (p : Protocol) (before after : List Entry) (d : Entry) → AllFine p (before ++ d ∷ after) → Fine p (names_in d.state d.handler) d.handler.body
+pub one_fine : (p : Protocol) (before after : List Entry) (d : Entry) → AllFine p (before ++ d ∷ after) →
+    Fine p (names_in d.state d.handler) d.handler.body
 one_fine p [] after d a = a.0
 one_fine p (b ∷ before) after d a = one_fine p before after d a.1
 
@@ -95,7 +99,9 @@ module _ (p : Protocol) (code : Code) (compiled : IsCode p code) (fine : AllFine
       rests_follow code (subst (NumberedFrom 0) (sym compiled.ops) (all_numbered p (entries_of p) 0 0 0 fine)) compiled.places
 
   -- the code of a handler follows its statements
-  pub entry_follows : (before after : List Entry) (d : Entry) → entries_of p ≡ before ++ d ∷ after → (width : ℕ) → loops_in (body_code p before d) ≤ width → Follows p (names_in d.state d.handler) (length (names_in d.state d.handler) + width) code (length (entries_code p before)) d.handler.body []
+  pub entry_follows : (before after : List Entry) (d : Entry) → entries_of p ≡ before ++ d ∷ after → (width : ℕ) →
+      loops_in (body_code p before d) ≤ width → Follows p (names_in d.state d.handler)
+      (length (names_in d.state d.handler) + width) code (length (entries_code p before)) d.handler.body []
   unfolding Leads
   entry_follows before after d e width room =
       let names = names_in d.state d.handler in
@@ -105,10 +111,14 @@ module _ (p : Protocol) (code : Code) (compiled : IsCode p code) (fine : AllFine
       let place : s.place ≡ length pre = omega (arith, s.place-is) in
       let rest : s.rest ≡ rests_in pre = omega (arith, s.rest-is) in
       let ops = compiled.ops ∙ ap (entries_code p) e ∙ s.same in
-      let stands = has_front (pre ++ (entry_code p d s.place s.rest s.loop ++ s.post)) (length pre) (entry_code p d s.place s.rest s.loop) s.post (has_all (entry_code p d s.place s.rest s.loop ++ s.post) pre) in
+      let stands = has_front (pre ++ (entry_code p d s.place s.rest s.loop ++ s.post)) (length pre)
+      (entry_code p d s.place s.rest s.loop) s.post (has_all (entry_code p d s.place s.rest s.loop ++ s.post) pre) in
       let there = subst (λ o. HasAt o (length pre) (entry_code p d s.place s.rest s.loop)) (sym ops) stands in
       let moved = subst (λ q. HasAt code.ops (length pre) (entry_code p d q s.rest s.loop)) place there in
-      let has : HasAt code.ops (length pre) (body ++ op.Done ∷ []) = subst (λ q. HasAt code.ops (length pre) (entry_code p d (length pre) q s.loop)) rest moved in
+      let has : HasAt code.ops (length pre) (body ++ op.Done ∷ []) =
+      subst (λ q. HasAt code.ops (length pre) (entry_code p d (length pre) q s.loop)) rest moved in
       let done = (has_back code.ops (length pre) body (op.Done ∷ []) has).0 in
-      let f = placed p names code (length names + width) rests (one_fine p before after d (subst (AllFine p) e fine)) (length pre) (rests_in pre) (length names) [] [] (omega arith) (omega arith) (has_front code.ops (length pre) body (op.Done ∷ []) has) (follows.ends done) in
+      let f = placed p names code (length names + width) rests (one_fine p before after d (subst (AllFine p) e fine))
+      (length pre) (rests_in pre) (length names) [] [] (omega arith) (omega arith)
+      (has_front code.ops (length pre) body (op.Done ∷ []) has) (follows.ends done) in
       subst (λ stmts. Follows p names (length names + width) code (length pre) stmts []) (append-nil d.handler.body) f

@@ -1,5 +1,6 @@
 -- Compiled code numbers its rests.
-use Rattle.std.proofs.Common.{◌≡◌, ℕ, zero, suc, ◌+◌, ◌<◌, List, [], ◌∷◌, ◌++◌, length, Option, Some, None, refl, sym, subst, arith}
+use Rattle.std.proofs.Common.{◌≡◌, ℕ, zero, suc, ◌+◌, ◌<◌, List, [], ◌∷◌, ◌++◌, length, Option, Some, None, refl, sym, subst}
+use Rattle.std.proofs.Common.{arith}
 use Rattle.std.specs.Prelude.{codes}
 use Rattle.tw_base.specs.declared.name.Name.{Name}
 use Rattle.teapot_tree.specs.declared.expr.Expr.{Expr, out-Expr}
@@ -43,18 +44,25 @@ quiet_put None (Some k) = record { numbered = λ r. (tt, tt); empty = refl }
 quiet_put None None = record { numbered = λ r. tt; empty = refl }
 
 module _ (p : Protocol) (names : List Name) where
-  layer_quiet : (n : ℕ) → ((e : Expr) → size e < n → Quiet (expr_code p names e)) → (e : Expr) (l : Expr-F Expr) → out-Expr e ≡ l → size e < suc n → Quiet (layer_expr p names l)
+  layer_quiet : (n : ℕ) → ((e : Expr) → size e < n → Quiet (expr_code p names e)) → (e : Expr) (l : Expr-F Expr) →
+      out-Expr e ≡ l → size e < suc n → Quiet (layer_expr p names l)
   unfolding layer_expr
   layer_quiet n ih e (Expr-F.Var name) d lt = quiet_get (slot_of names name) (info_number p name)
   layer_quiet n ih e Expr-F.Src d lt = quiet_get (slot_of names (codes "src")) (info_number p (codes "src"))
   layer_quiet n ih e (Expr-F.One a) d lt =
-      quiet-append (expr_code p names a) (op.One ∷ []) (ih a (omega (arith, size-is e (Expr-F.One a) d))) (record { numbered = λ r. (tt, tt); empty = refl })
+      quiet-append (expr_code p names a) (op.One ∷ []) (ih a (omega (arith, size-is e (Expr-F.One a) d)))
+      (record { numbered = λ r. (tt, tt); empty = refl })
   layer_quiet n ih e (Expr-F.Not a) d lt =
-      quiet-append (expr_code p names a) (op.Not ∷ []) (ih a (omega (arith, size-is e (Expr-F.Not a) d))) (record { numbered = λ r. (tt, tt); empty = refl })
+      quiet-append (expr_code p names a) (op.Not ∷ []) (ih a (omega (arith, size-is e (Expr-F.Not a) d)))
+      (record { numbered = λ r. (tt, tt); empty = refl })
   layer_quiet n ih e (Expr-F.Count a) d lt =
-      quiet-append (expr_code p names a) (op.Count ∷ []) (ih a (omega (arith, size-is e (Expr-F.Count a) d))) (record { numbered = λ r. (tt, tt); empty = refl })
+      quiet-append (expr_code p names a) (op.Count ∷ []) (ih a (omega (arith, size-is e (Expr-F.Count a) d)))
+      (record { numbered = λ r. (tt, tt); empty = refl })
   layer_quiet n ih e (Expr-F.Two o a b) d lt =
-      quiet-append (expr_code p names a) (expr_code p names b ++ op.Two o ∷ []) (ih a (omega (arith, size-is e (Expr-F.Two o a b) d))) (quiet-append (expr_code p names b) (op.Two o ∷ []) (ih b (omega (arith, size-is e (Expr-F.Two o a b) d))) (record { numbered = λ r. (tt, tt); empty = refl }))
+      quiet-append (expr_code p names a) (expr_code p names b ++ op.Two o ∷ [])
+      (ih a (omega (arith, size-is e (Expr-F.Two o a b) d)))
+      (quiet-append (expr_code p names b) (op.Two o ∷ []) (ih b (omega (arith, size-is e (Expr-F.Two o a b) d)))
+      (record { numbered = λ r. (tt, tt); empty = refl }))
   layer_quiet n ih e _ d lt = record { numbered = λ r. (tt, tt); empty = refl }
 
   below_quiet : (n : ℕ) (e : Expr) → size e < n → Quiet (expr_code p names e)
@@ -73,11 +81,13 @@ abbrev pub Numbers : Piece → Type 0
 Numbers c = (at r h : ℕ) → NumberedFrom r (c at r h)
 
 module _ (p : Protocol) (names : List Name) where
-  first_numbers : (s : Stmt) (stmts : List Stmt) (l : Layer) → what_of s ≡ l → Numbers (layer_code p names l) → Numbers (code_of p names stmts) → Numbers (code_of p names (s ∷ stmts))
+  first_numbers : (s : Stmt) (stmts : List Stmt) (l : Layer) → what_of s ≡ l → Numbers (layer_code p names l) →
+      Numbers (code_of p names stmts) → Numbers (code_of p names (s ∷ stmts))
   first_numbers s stmts l d x y at r h =
       let one : Numbers (stmt_code p names s) = subst Numbers (sym (by_layer p names s l d)) x in
       let c = stmt_code p names s at r h in
-      numbered-append c (code_of p names stmts (at + length c) (r + rests_in c) (h + loops_in c)) r (one at r h) (y (at + length c) (r + rests_in c) (h + loops_in c))
+      numbered-append c (code_of p names stmts (at + length c) (r + rests_in c) (h + loops_in c)) r (one at r h)
+      (y (at + length c) (r + rests_in c) (h + loops_in c))
 
   plain_numbers : (l : Layer) (o : OpCode) → plain_op l ≡ Some o → Numbers (layer_code p names l)
   unfolding layer_code
@@ -99,9 +109,11 @@ module _ (p : Protocol) (names : List Name) where
   pub numbers : {stmts : List Stmt} → Fine p names stmts → Numbers (code_of p names stmts)
   unfolding layer_code
   numbers fine.none = λ at r h. tt
-  numbers (fine.plain {s = s} {rest = stmts} {o = o} e x) = first_numbers s stmts (what_of s) refl (plain_numbers (what_of s) o e) (numbers x)
+  numbers (fine.plain {s = s} {rest = stmts} {o = o} e x) = first_numbers s stmts (what_of s) refl
+      (plain_numbers (what_of s) o e) (numbers x)
   numbers (fine.assigns {s = s} {rest = stmts} {name = name} {e = e} d put x) =
-      first_numbers s stmts _ d (λ at r h. quiet_before (expr_code p names e) _ r (expr_quiet p names e) ((quiet_put (slot_of names name) (info_number p name)).numbered r)) (numbers x)
+      first_numbers s stmts _ d (λ at r h. quiet_before (expr_code p names e) _ r (expr_quiet p names e)
+      ((quiet_put (slot_of names name) (info_number p name)).numbered r)) (numbers x)
   numbers (fine.tests {s = s} {rest = stmts} {first = first} {e = e} d x y) =
       first_numbers s stmts _ d (λ at r h.
       let t = expr_code p names e in
@@ -110,19 +122,27 @@ module _ (p : Protocol) (names : List Name) where
       first_numbers s stmts _ d (λ at r h.
       let t = expr_code p names e in
       let a = code_of p names first (at + length t + 1) r h in
-      quiet_before t _ r (expr_quiet p names e) (tt, numbered-append a _ r (numbers x (at + length t + 1) r h) (tt, numbers y (at + length t + 1 + length a + 1) (r + rests_in a) (h + loops_in a)))) (numbers z)
+      quiet_before t _ r (expr_quiet p names e) (
+        tt,
+        numbered-append a _ r (numbers x (at + length t + 1) r h)
+            (tt, numbers y (at + length t + 1 + length a + 1) (r + rests_in a) (h + loops_in a)),
+      )) (numbers z)
   numbers (fine.sends {s = s} {rest = stmts} {to = to} {name = name} {args = args} d c x) =
-      first_numbers s stmts _ d (λ at r h. quiet_before (expr_code p names to) _ r (expr_quiet p names to) (quiet_before (all_code p names args) _ r (all_quiet p names args) (tt, tt))) (numbers x)
+      first_numbers s stmts _ d (λ at r h. quiet_before (expr_code p names to) _ r (expr_quiet p names to)
+      (quiet_before (all_code p names args) _ r (all_quiet p names args) (tt, tt))) (numbers x)
   numbers (fine.sends_all {s = s} {rest = stmts} {to = to} {name = name} {args = args} d c x) =
-      first_numbers s stmts _ d (λ at r h. quiet_before (expr_code p names to) _ r (expr_quiet p names to) (quiet_before (all_code p names args) _ r (all_quiet p names args) (tt, tt))) (numbers x)
+      first_numbers s stmts _ d (λ at r h. quiet_before (expr_code p names to) _ r (expr_quiet p names to)
+      (quiet_before (all_code p names args) _ r (all_quiet p names args) (tt, tt))) (numbers x)
   numbers (fine.moves {s = s} {rest = stmts} {name = name} {args = args} d c x) =
       first_numbers s stmts _ d (λ at r h. quiet_before (all_code p names args) _ r (all_quiet p names args) (tt, tt)) (numbers x)
   numbers (fine.suspends {s = s} {rest = stmts} {name = name} {args = args} d c x) =
-      first_numbers s stmts _ d (λ at r h. quiet_before (all_code p names args) _ r (all_quiet p names args) (refl, tt)) (numbers x)
+      first_numbers s stmts _ d (λ at r h. quiet_before (all_code p names args) _ r (all_quiet p names args) (refl, tt))
+      (numbers x)
   numbers (fine.loops {s = s} {rest = stmts} {body = body} {x = x} {e = e} d a y z) =
       first_numbers s stmts _ d (λ at r h.
       let t = expr_code p names e in
       let b = code_of p names body (at + length t + 1 + 1) r (h + 1) in
-      quiet_before t _ r (expr_quiet p names e) (tt, (tt, numbered-append b _ r (numbers y (at + length t + 1 + 1) r (h + 1)) (tt, tt)))) (numbers z)
+      quiet_before t _ r (expr_quiet p names e)
+      (tt, (tt, numbered-append b _ r (numbers y (at + length t + 1 + 1) r (h + 1)) (tt, tt)))) (numbers z)
   numbers (fine.resumes {s = s} {rest = stmts} d x) = first_numbers s stmts _ d (λ at r h. (tt, tt)) (numbers x)
   numbers (fine.fails {s = s} {rest = stmts} d x) = first_numbers s stmts _ d (λ at r h. (tt, tt)) (numbers x)

@@ -1,5 +1,6 @@
 -- Compiled code follows its statements.
-use Rattle.std.proofs.Common.{◌≡◌, ℕ, zero, suc, ◌+◌, ◌<◌, ◌≤◌, List, [], ◌∷◌, ◌++◌, length, Bool, Option, Some, None, refl, sym, ap, subst, arith, ◌∙◌, length-append}
+use Rattle.std.proofs.Common.{◌≡◌, ℕ, zero, suc, ◌+◌, ◌<◌, ◌≤◌, List, [], ◌∷◌, ◌++◌, length, Bool, Option, Some, None, refl}
+use Rattle.std.proofs.Common.{sym, ap, subst, arith, ◌∙◌, length-append}
 use Rattle.std.specs.Prelude.{unwrap_or}
 use Rattle.tw_base.specs.NodeSets.{without}
 use Rattle.tw_base.specs.declared.name.Name.{Name}
@@ -20,9 +21,11 @@ use Rattle.handler_code.specs.declared.code.Code.{Code}
 use Rattle.handler_code.specs.declared.code.OpCode.{OpCode}
 use Rattle.handler_code.specs.declared.code.OpCode.TheVariants as op
 use Rattle.handler_code.specs.Live.{HasOp}
-use Rattle.compiled_meaning.specs.Follows.{Evaluates, EvaluatesAll, Follows, Loop, Nested, atom, single, negation, counting, pair, none as no_args, more, get_op, put_op, slot_of}
+use Rattle.compiled_meaning.specs.Follows.{Evaluates, EvaluatesAll, Follows, Loop, Nested, atom, single, negation, counting}
+use Rattle.compiled_meaning.specs.Follows.{pair, none as no_args, more, slot_of}
 use Rattle.compiled_meaning.specs.Follows as follows
-use Rattle.compiled_meaning.specs.Compiled.{Piece, all_code, code_of, expr_code, expr_step, loops_by, loops_in, op_list, rests_in, stmt_code, stmt_step}
+use Rattle.compiled_meaning.specs.Compiled.{Piece, all_code, code_of, expr_code, expr_step, loops_by, loops_in, op_list}
+use Rattle.compiled_meaning.specs.Compiled.{rests_in, stmt_code, stmt_step}
 use Rattle.compiled_meaning.proofs.Fine.{Fine}
 use Rattle.compiled_meaning.proofs.Fine as fine
 use Rattle.compiled_meaning.proofs.Exprs.{nested_more}
@@ -61,17 +64,22 @@ module _ (p : Protocol) (names : List Name) where
 
   -- an expression that is smaller than this
   Placed : List OpCode → ℕ → Type 0
-  Placed ops n = (e : Expr) → size e < n → (at : ℕ) → HasAt ops at (expr_code p names e) → Evaluates p names ops at e (at + length (expr_code p names e))
+  Placed ops n = (e : Expr) → size e < n → (at : ℕ) → HasAt ops at (expr_code p names e) →
+      Evaluates p names ops at e (at + length (expr_code p names e))
 
   -- an op behind the code of its operand
-  unary_placed : (ops : List OpCode) (n : ℕ) → Placed ops n → (e a : Expr) (o : OpCode) → size a < n → (at : ℕ) → HasAt ops at (expr_code p names a ++ o ∷ []) → ((after : ℕ) → Evaluates p names ops at a after → HasOp ops after o → Evaluates p names ops at e (after + 1)) → Evaluates p names ops at e (at + length (expr_code p names a ++ o ∷ []))
+  unary_placed : (ops : List OpCode) (n : ℕ) → Placed ops n → (e a : Expr) (o : OpCode) → size a < n → (at : ℕ) →
+      HasAt ops at (expr_code p names a ++ o ∷ []) → ((after : ℕ) → Evaluates p names ops at a after → HasOp ops after o →
+      Evaluates p names ops at e (after + 1)) → Evaluates p names ops at e (at + length (expr_code p names a ++ o ∷ []))
   unfolding Placed
   unary_placed ops n ih e a o small at h made =
       let c = expr_code p names a in
       let place : at + length c + 1 ≡ at + length (c ++ o ∷ []) = omega (arith, length-append c (o ∷ [])) in
-      subst (Evaluates p names ops at e) place (made (at + length c) (ih a small at (has_front ops at c (o ∷ []) h)) (has_back ops at c (o ∷ []) h).0)
+      subst (Evaluates p names ops at e) place (made (at + length c) (ih a small at (has_front ops at c (o ∷ []) h))
+      (has_back ops at c (o ∷ []) h).0)
 
-  layer_placed : (ops : List OpCode) (n : ℕ) → Placed ops n → (e : Expr) (l : Expr-F Expr) → out-Expr e ≡ l → size e < suc n → (at : ℕ) → HasAt ops at (layer_expr l) → Evaluates p names ops at e (at + length (layer_expr l))
+  layer_placed : (ops : List OpCode) (n : ℕ) → Placed ops n → (e : Expr) (l : Expr-F Expr) → out-Expr e ≡ l → size e < suc n →
+      (at : ℕ) → HasAt ops at (layer_expr l) → Evaluates p names ops at e (at + length (layer_expr l))
   unfolding layer_expr Placed
   layer_placed ops n ih e (Expr-F.Number k) d lt at h = atom (ap (follows.atom_op p names) d) h.0
   layer_placed ops n ih e Expr-F.True d lt at h = atom (ap (follows.atom_op p names) d) h.0
@@ -91,35 +99,44 @@ module _ (p : Protocol) (names : List Name) where
       let ca = expr_code p names a in
       let cb = expr_code p names b in
       let last = op.Two o ∷ [] in
-      let place : at + length ca + length cb + 1 ≡ at + length (ca ++ (cb ++ last)) = omega (arith, length-append ca (cb ++ last), length-append cb last) in
+      let place : at + length ca + length cb + 1 ≡ at + length (ca ++ (cb ++ last)) =
+      omega (arith, length-append ca (cb ++ last), length-append cb last) in
       let small_a : size a < n = omega (arith, size-is e (Expr-F.Two o a b) d) in
       let small_b : size b < n = omega (arith, size-is e (Expr-F.Two o a b) d) in
       let back = has_back ops at ca (cb ++ last) h in
-      subst (Evaluates p names ops at e) place (pair d (ih a small_a at (has_front ops at ca (cb ++ last) h)) (ih b small_b (at + length ca) (has_front ops (at + length ca) cb last back)) (has_back ops (at + length ca) cb last back).0)
+      subst (Evaluates p names ops at e) place (pair d (ih a small_a at (has_front ops at ca (cb ++ last) h))
+      (ih b small_b (at + length ca) (has_front ops (at + length ca) cb last back))
+      (has_back ops (at + length ca) cb last back).0)
 
   below_placed : (ops : List OpCode) (n : ℕ) → Placed ops n
   unfolding Placed
   below_placed ops zero e lt at h = absurd (omega arith)
   below_placed ops (suc n) e lt at h =
-      let f : HasAt ops at (layer_expr (out-Expr e)) → Evaluates p names ops at e (at + length (layer_expr (out-Expr e))) = layer_placed ops n (below_placed ops n) e (out-Expr e) refl lt at in
+      let f : HasAt ops at (layer_expr (out-Expr e)) → Evaluates p names ops at e (at + length (layer_expr (out-Expr e))) =
+      layer_placed ops n (below_placed ops n) e (out-Expr e) refl lt at in
       subst (λ c. HasAt ops at c → Evaluates p names ops at e (at + length c)) (sym (expr_code-is e)) f h
 
-  pub expr_placed : (ops : List OpCode) (e : Expr) (at : ℕ) → HasAt ops at (expr_code p names e) → Evaluates p names ops at e (at + length (expr_code p names e))
+  pub expr_placed : (ops : List OpCode) (e : Expr) (at : ℕ) → HasAt ops at (expr_code p names e) →
+      Evaluates p names ops at e (at + length (expr_code p names e))
   unfolding Placed
   expr_placed ops e at h = below_placed ops (suc (size e)) e (omega arith) at h
 
-  pub all_placed : (ops : List OpCode) (es : List Expr) (at : ℕ) → HasAt ops at (all_code p names es) → EvaluatesAll p names ops at es (at + length (all_code p names es))
+  pub all_placed : (ops : List OpCode) (es : List Expr) (at : ℕ) → HasAt ops at (all_code p names es) →
+      EvaluatesAll p names ops at es (at + length (all_code p names es))
   all_placed ops [] at h = let e : at ≡ at + 0 = omega arith in subst (λ n. EvaluatesAll p names ops at [] n) e no_args
   all_placed ops (e ∷ es) at h =
       let c = expr_code p names e in
       let more_code = all_code p names es in
       let place : at + length c + length more_code ≡ at + length (c ++ more_code) = omega (arith, length-append c more_code) in
-      subst (EvaluatesAll p names ops at (e ∷ es)) place (more (expr_placed ops e at (has_front ops at c more_code h)) (all_placed ops es (at + length c) (has_back ops at c more_code h)))
+      subst (EvaluatesAll p names ops at (e ∷ es)) place (more (expr_placed ops e at (has_front ops at c more_code h))
+      (all_placed ops es (at + length c) (has_back ops at c more_code h)))
 
 module _ (p : Protocol) (names : List Name) where
   -- the code of one level of a statement
   unfoldable pub layer_code : Layer → Piece
-  layer_code l = stmt_step p names (map-Do Do Stmt Piece Piece (fold-Do Piece Piece (stmt_step p names) (λ s. s.what)) (stmt_code p names) l)
+  layer_code l =
+      stmt_step p names (map-Do Do Stmt Piece Piece (fold-Do Piece Piece (stmt_step p names) (λ s. s.what))
+      (stmt_code p names) l)
 
   stmt_code-is : (s : Stmt) → stmt_code p names s ≡ layer_code (what_of s)
   unfolding stmt_code layer_code
@@ -131,13 +148,19 @@ module _ (p : Protocol) (names : List Name) where
   module _ (code : Code) (width : ℕ) (numbered : RestsFollow code) where
     -- Statements whose code stands at a place lead to those that follow.
     unfoldable pub Leads : List Stmt → Type 0
-    Leads stmts = (at r h : ℕ) (tail : List Stmt) (loops : List Loop) → Nested names h loops → h + loops_in (code_of p names stmts at r h) ≤ width → HasAt code.ops at (code_of p names stmts at r h) → Follows p names width code (at + length (code_of p names stmts at r h)) tail loops → Follows p names width code at (stmts ++ tail) loops
+    Leads stmts = (at r h : ℕ) (tail : List Stmt) (loops : List Loop) → Nested names h loops →
+        h + loops_in (code_of p names stmts at r h) ≤ width → HasAt code.ops at (code_of p names stmts at r h) →
+        Follows p names width code (at + length (code_of p names stmts at r h)) tail loops →
+        Follows p names width code at (stmts ++ tail) loops
 
     -- the code of one statement leads to what follows it
     One : Stmt → Piece → Type 0
-    One s c = (at r h : ℕ) (rest : List Stmt) (loops : List Loop) → Nested names h loops → h + loops_in (c at r h) ≤ width → HasAt code.ops at (c at r h) → Follows p names width code (at + length (c at r h)) rest loops → Follows p names width code at (s ∷ rest) loops
+    One s c = (at r h : ℕ) (rest : List Stmt) (loops : List Loop) → Nested names h loops → h + loops_in (c at r h) ≤ width →
+        HasAt code.ops at (c at r h) → Follows p names width code (at + length (c at r h)) rest loops →
+        Follows p names width code at (s ∷ rest) loops
 
-    first_leads : (s : Stmt) (stmts : List Stmt) (l : Layer) → what_of s ≡ l → One s (layer_code l) → Leads stmts → Leads (s ∷ stmts)
+    first_leads : (s : Stmt) (stmts : List Stmt) (l : Layer) → what_of s ≡ l → One s (layer_code l) → Leads stmts →
+        Leads (s ∷ stmts)
     unfolding Leads One
     first_leads s stmts l d one rest at r h tail loops n w has f =
         let c = stmt_code p names s at r h in
@@ -147,21 +170,37 @@ module _ (p : Protocol) (names : List Name) where
         let room_after : h + loops_in c + loops_in others ≤ width = omega (arith, loops_in-append c others) in
         let up : h ≤ h + loops_in c = omega arith in
         let one_code : One s (stmt_code p names s) = subst (One s) (sym (by_layer s l d)) one in
-        one_code at r h (stmts ++ tail) loops n room (has_front code.ops at c others has) (rest (at + length c) (r + rests_in c) (h + loops_in c) tail loops (nested_more names h (h + loops_in c) loops up n) room_after (has_back code.ops at c others has) (subst (λ q. Follows p names width code q tail loops) place f))
+        one_code at r h (stmts ++ tail) loops n room (has_front code.ops at c others has)
+        (rest (at + length c) (r + rests_in c) (h + loops_in c) tail loops
+        (nested_more names h (h + loops_in c) loops up n) room_after (has_back code.ops at c others has)
+        (subst (λ q. Follows p names width code q tail loops) place f))
 
     -- a loop whose set has fewer members than this
-    loop_follows : (x : Name) (body : List Stmt) (k : ℕ) → slot_of names x ≡ Some k → Leads body → (start r h to : ℕ) (rest : List Stmt) (loops : List Loop) → Nested names h loops → h + 1 + loops_in (code_of p names body (start + 1) r (h + 1)) ≤ width → HasOp code.ops start (op.EachNext k h to) → HasAt code.ops (start + 1) (code_of p names body (start + 1) r (h + 1)) → HasOp code.ops (start + 1 + length (code_of p names body (start + 1) r (h + 1))) (op.JumpBack start) → Follows p names width code to rest loops → (n : ℕ) (set : List Bool) → length (nodes_in set) < n → Follows p names width code start (each x set body ∷ rest) (record { slot = h; set = set } ∷ loops)
+    loop_follows : (x : Name) (body : List Stmt) (k : ℕ) → slot_of names x ≡ Some k → Leads body →
+        (start r h to : ℕ) (rest : List Stmt) (loops : List Loop) → Nested names h loops →
+        h + 1 + loops_in (code_of p names body (start + 1) r (h + 1)) ≤ width → HasOp code.ops start (op.EachNext k h to) →
+        HasAt code.ops (start + 1) (code_of p names body (start + 1) r (h + 1)) →
+        HasOp code.ops (start + 1 + length (code_of p names body (start + 1) r (h + 1))) (op.JumpBack start) →
+        Follows p names width code to rest loops → (n : ℕ) (set : List Bool) → length (nodes_in set) < n →
+        Follows p names width code start (each x set body ∷ rest) (record { slot = h; set = set } ∷ loops)
     unfolding Leads
     loop_follows x body k a ih start r h to rest loops nest w next has back f zero set lt = absurd (omega arith)
     loop_follows x body k a ih start r h to rest loops nest w next has back f (suc n) set lt =
-        by_least (λ set less. loop_follows x body k a ih start r h to rest loops nest w next has back f n set less) (least_of set) refl
+        by_least (λ set less. loop_follows x body k a ih start r h to rest loops nest w next has back f n set less)
+        (least_of set) refl
       where
-        by_least : ((set : List Bool) → length (nodes_in set) < n → Follows p names width code start (each x set body ∷ rest) (record { slot = h; set = set } ∷ loops)) → (o : Option ℕ) → least_of set ≡ o → Follows p names width code start (each x set body ∷ rest) (record { slot = h; set = set } ∷ loops)
+        by_least : ((set : List Bool) → length (nodes_in set) < n →
+            Follows p names width code start (each x set body ∷ rest) (record { slot = h; set = set } ∷ loops)) →
+            (o : Option ℕ) → least_of set ≡ o → Follows p names width code start (each x set body ∷ rest)
+            (record { slot = h; set = set } ∷ loops)
         by_least again None e = follows.ends_loop (out-roll-Do (Do-F.Each x set body)) e next f
         by_least again (Some m) e =
             let less : length (nodes_in (without set m)) < n = omega (arith, nodes_rest set m e, lt) in
             let up : h < h + 1 = omega arith in
-            follows.turns (out-roll-Do (Do-F.Each x set body)) e a next (ih (start + 1) r (h + 1) (each x (without set m) body ∷ rest) (record { slot = h; set = without set m } ∷ loops) (up, nest) w has (follows.jumps_back back next (again (without set m) less)))
+            follows.turns (out-roll-Do (Do-F.Each x set body)) e a next
+            (ih (start + 1) r (h + 1) (each x (without set m) body ∷ rest)
+            (record { slot = h; set = without set m } ∷ loops) (up, nest) w has
+            (follows.jumps_back back next (again (without set m) less)))
 
     -- each statement by its level
     plain_leads : (s : Stmt) (l : Layer) (o : OpCode) → what_of s ≡ l → follows.plain_op l ≡ Some o → One s (layer_code l)
@@ -187,15 +226,19 @@ module _ (p : Protocol) (names : List Name) where
 
     pub placed : {stmts : List Stmt} → Fine p names stmts → Leads stmts
     unfolding Leads One layer_code
-    placed fine.none = λ at r h tail loops n w has f. let e : at + 0 ≡ at = omega arith in subst (λ q. Follows p names width code q tail loops) e f
+    placed fine.none = λ at r h tail loops n w has f. let e : at + 0 ≡ at =
+        omega arith in subst (λ q. Follows p names width code q tail loops) e f
     placed (fine.plain {s = s} {rest = stmts} {o = o} e x) =
         first_leads s stmts (what_of s) refl (plain_leads s (what_of s) o refl e) (placed x)
     placed (fine.assigns {s = s} {rest = stmts} {name = name} {e = e} {o = o} d put x) =
         first_leads s stmts _ d (λ at r h rest loops n w has f.
         let c = expr_code p names e in
         let has' : HasAt code.ops at (c ++ o ∷ []) = subst (λ q. HasAt code.ops at (c ++ op_list q)) put has in
-        let f' : Follows p names width code (at + length (c ++ o ∷ [])) rest loops = subst (λ q. Follows p names width code (at + length (c ++ op_list q)) rest loops) put f in
-        follows.assigns d (expr_placed p names code.ops e at (has_front code.ops at c _ has')) put (has_back code.ops at c _ has').0 (subst (λ q. Follows p names width code q rest loops) (last_place at c o) f')) (placed x)
+        let f' : Follows p names width code (at + length (c ++ o ∷ [])) rest loops =
+        subst (λ q. Follows p names width code (at + length (c ++ op_list q)) rest loops) put f in
+        follows.assigns d (expr_placed p names code.ops e at (has_front code.ops at c _ has')) put
+        (has_back code.ops at c _ has').0 (subst (λ q. Follows p names width code q rest loops) (last_place at c o) f'))
+        (placed x)
     placed (fine.tests {s = s} {rest = stmts} {first = first} {e = e} d x y) =
         first_leads s stmts _ d (λ at r h rest loops n w has f.
         let t = expr_code p names e in
@@ -205,7 +248,8 @@ module _ (p : Protocol) (names : List Name) where
         let back = has_back code.ops at t (op.JumpIfNot to ∷ a) has in
         let place : at + length (t ++ op.JumpIfNot to ∷ a) ≡ to = omega (arith, length-append t (op.JumpIfNot to ∷ a)) in
         let end = subst (λ q. Follows p names width code q rest loops) place f in
-        follows.branches d (expr_placed p names code.ops e at (has_front code.ops at t _ has)) back.0 (placed x (at + length t + 1) r h rest loops n room back.1 end) end) (placed y)
+        follows.branches d (expr_placed p names code.ops e at (has_front code.ops at t _ has)) back.0
+        (placed x (at + length t + 1) r h rest loops n room back.1 end) end) (placed y)
     placed (fine.branches {s = s} {rest = stmts} {first = first} {second = second} {e = e} d x y z) =
         first_leads s stmts _ d (λ at r h rest loops n w has f.
         let t = expr_code p names e in
@@ -220,37 +264,52 @@ module _ (p : Protocol) (names : List Name) where
         let past : at + length t + 1 + length a < to + length b = omega arith in
         let back = has_back code.ops at t (op.JumpIfNot to ∷ (a ++ jump)) has in
         let after = has_back code.ops (at + length t + 1) a jump back.1 in
-        let place : at + length (t ++ op.JumpIfNot to ∷ (a ++ jump)) ≡ to + length b = omega (arith, length-append t (op.JumpIfNot to ∷ (a ++ jump)), length-append a jump) in
+        let place : at + length (t ++ op.JumpIfNot to ∷ (a ++ jump)) ≡ to + length b =
+        omega (arith, length-append t (op.JumpIfNot to ∷ (a ++ jump)), length-append a jump) in
         let end = subst (λ q. Follows p names width code q rest loops) place f in
-        follows.branches d (expr_placed p names code.ops e at (has_front code.ops at t _ has)) back.0 (placed x (at + length t + 1) r h rest loops n room (has_front code.ops (at + length t + 1) a jump back.1) (follows.jumps after.0 past end)) (placed y to (r + rests_in a) (h + loops_in a) rest loops (nested_more names h (h + loops_in a) loops up n) room_b after.1 end)) (placed z)
+        follows.branches d (expr_placed p names code.ops e at (has_front code.ops at t _ has)) back.0
+        (placed x (at + length t + 1) r h rest loops n room (has_front code.ops (at + length t + 1) a jump back.1)
+        (follows.jumps after.0 past end)) (placed y to (r + rests_in a) (h + loops_in a) rest loops
+        (nested_more names h (h + loops_in a) loops up n) room_b after.1 end)) (placed z)
     placed (fine.sends {s = s} {rest = stmts} {to = to} {name = name} {args = args} d c x) =
         first_leads s stmts _ d (λ at r h rest loops n w has f.
         let t = expr_code p names to in
         let a = all_code p names args in
         let o = op.Send (declared (message_number p name)) in
         let back = has_back code.ops at t (a ++ o ∷ []) has in
-        let place : at + length (t ++ (a ++ o ∷ [])) ≡ at + length t + length a + 1 = omega (arith, length-append t (a ++ o ∷ []), length-append a (o ∷ [])) in
-        follows.sends d (expr_placed p names code.ops to at (has_front code.ops at t _ has)) (all_placed p names code.ops args (at + length t) (has_front code.ops (at + length t) a _ back)) (has_back code.ops (at + length t) a _ back).0 c (subst (λ q. Follows p names width code q rest loops) place f)) (placed x)
+        let place : at + length (t ++ (a ++ o ∷ [])) ≡ at + length t + length a + 1 =
+        omega (arith, length-append t (a ++ o ∷ []), length-append a (o ∷ [])) in
+        follows.sends d (expr_placed p names code.ops to at (has_front code.ops at t _ has))
+        (all_placed p names code.ops args (at + length t) (has_front code.ops (at + length t) a _ back))
+        (has_back code.ops (at + length t) a _ back).0 c (subst (λ q. Follows p names width code q rest loops) place f))
+        (placed x)
     placed (fine.sends_all {s = s} {rest = stmts} {to = to} {name = name} {args = args} d c x) =
         first_leads s stmts _ d (λ at r h rest loops n w has f.
         let t = expr_code p names to in
         let a = all_code p names args in
         let o = op.SendAll (declared (message_number p name)) in
         let back = has_back code.ops at t (a ++ o ∷ []) has in
-        let place : at + length (t ++ (a ++ o ∷ [])) ≡ at + length t + length a + 1 = omega (arith, length-append t (a ++ o ∷ []), length-append a (o ∷ [])) in
-        follows.sends_all d (expr_placed p names code.ops to at (has_front code.ops at t _ has)) (all_placed p names code.ops args (at + length t) (has_front code.ops (at + length t) a _ back)) (has_back code.ops (at + length t) a _ back).0 c (subst (λ q. Follows p names width code q rest loops) place f)) (placed x)
+        let place : at + length (t ++ (a ++ o ∷ [])) ≡ at + length t + length a + 1 =
+        omega (arith, length-append t (a ++ o ∷ []), length-append a (o ∷ [])) in
+        follows.sends_all d (expr_placed p names code.ops to at (has_front code.ops at t _ has))
+        (all_placed p names code.ops args (at + length t) (has_front code.ops (at + length t) a _ back))
+        (has_back code.ops (at + length t) a _ back).0 c (subst (λ q. Follows p names width code q rest loops) place f))
+        (placed x)
     placed (fine.moves {s = s} {rest = stmts} {name = name} {args = args} d c x) =
         first_leads s stmts _ d (λ at r h rest loops n w has f.
         let a = all_code p names args in
         let o = op.Goto (declared (state_number p name)) in
-        follows.moves d (all_placed p names code.ops args at (has_front code.ops at a _ has)) (has_back code.ops at a _ has).0 c (subst (λ q. Follows p names width code q rest loops) (last_place at a o) f)) (placed x)
+        follows.moves d (all_placed p names code.ops args at (has_front code.ops at a _ has))
+        (has_back code.ops at a _ has).0 c (subst (λ q. Follows p names width code q rest loops) (last_place at a o) f))
+        (placed x)
     placed (fine.suspends {s = s} {rest = stmts} {label = label} {name = name} {passed = passed} {args = args} d c x) =
         first_leads s stmts _ d (λ at r h rest loops n w has f.
         let a = all_code p names args in
         let o = op.Suspend (declared (state_number p name)) r in
         let back = (has_back code.ops at a _ has).0 in
         let saved = numbered (at + length a) (declared (state_number p name)) r back in
-        follows.suspends d (all_placed p names code.ops args at (has_front code.ops at a _ has)) back c saved.1 saved.2 (subst (λ q. Follows p names width code q rest loops) (last_place at a o) f)) (placed x)
+        follows.suspends d (all_placed p names code.ops args at (has_front code.ops at a _ has)) back c saved.1 saved.2
+        (subst (λ q. Follows p names width code q rest loops) (last_place at a o) f)) (placed x)
     placed (fine.loops {s = s} {rest = stmts} {body = body} {x = x} {e = e} {k = k} d a y z) =
         first_leads s stmts _ d (λ at r h rest loops n w has f.
         let t = expr_code p names e in
@@ -263,10 +322,16 @@ module _ (p : Protocol) (names : List Name) where
         let room : h + 1 + loops_in b ≤ width = omega (arith, all, loops_in-append b last) in
         let wide : h < width = omega arith in
         let back = has_back code.ops at t (op.Put h ∷ op.EachNext slot h to ∷ (b ++ last)) has in
-        let next : HasOp code.ops start (op.EachNext k h to) = subst (λ o. HasOp code.ops start (op.EachNext (unwrap_or o 0) h to)) a back.1.0 in
-        let place : at + length (t ++ op.Put h ∷ op.EachNext slot h to ∷ (b ++ last)) ≡ to = omega (arith, length-append t (op.Put h ∷ op.EachNext slot h to ∷ (b ++ last)), length-append b last) in
+        let next : HasOp code.ops start (op.EachNext k h to) =
+        subst (λ o. HasOp code.ops start (op.EachNext (unwrap_or o 0) h to)) a back.1.0 in
+        let place : at + length (t ++ op.Put h ∷ op.EachNext slot h to ∷ (b ++ last)) ≡ to =
+        omega (arith, length-append t (op.Put h ∷ op.EachNext slot h to ∷ (b ++ last)), length-append b last) in
         let end = subst (λ q. Follows p names width code q rest loops) place f in
-        follows.begins d (expr_placed p names code.ops e at (has_front code.ops at t _ has)) back.0 wide n (λ set. loop_follows x body k a (placed y) start r h to rest loops n room next (has_front code.ops (start + 1) b last back.1.1) (has_back code.ops (start + 1) b last back.1.1).0 end (suc (length (nodes_in set))) set (omega arith))) (placed z)
-    placed (fine.resumes {s = s} {rest = stmts} d x) = first_leads s stmts _ d (λ at r h rest loops n w has f. follows.resumes d has.0) (placed x)
+        follows.begins d (expr_placed p names code.ops e at (has_front code.ops at t _ has)) back.0 wide n
+        (λ set. loop_follows x body k a (placed y) start r h to rest loops n room next
+        (has_front code.ops (start + 1) b last back.1.1) (has_back code.ops (start + 1) b last back.1.1).0 end
+        (suc (length (nodes_in set))) set (omega arith))) (placed z)
+    placed (fine.resumes {s = s} {rest = stmts} d x) = first_leads s stmts _ d
+        (λ at r h rest loops n w has f. follows.resumes d has.0) (placed x)
     placed (fine.fails {s = s} {rest = stmts} d x) =
         first_leads s stmts _ d (λ at r h rest loops n w has f. follows.fails d has.0) (placed x)

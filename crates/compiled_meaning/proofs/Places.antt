@@ -14,7 +14,8 @@ HasAt ops at (o ∷ os) = HasOp ops at o × HasAt ops (at + 1) os
 
 -- a rest begins right after its one `Suspend`
 abbrev pub RestsFollow : Code → Type 0
-RestsFollow code = (at state r : ℕ) → HasOp code.ops at (op.Suspend state r) → (rest : Rest) × (slice_get code.rests r ≡ Some rest) × (rest.at ≡ at + 1)
+RestsFollow code = (at state r : ℕ) → HasOp code.ops at (op.Suspend state r) →
+    (rest : Rest) × (slice_get code.rests r ≡ Some rest) × (rest.at ≡ at + 1)
 
 pub has_front : (ops : List OpCode) (at : ℕ) (a b : List OpCode) → HasAt ops at (a ++ b) → HasAt ops at a
 has_front ops at [] b h = tt

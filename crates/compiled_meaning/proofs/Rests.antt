@@ -47,7 +47,8 @@ found_first o ops at r s n e h =
     let h' : n ≡ r = subst (λ q. IsNumber q r) e h in
     subst (λ q. Found (q ∷ ops) at at r n) (sym e) (record { index = 0; number = omega (arith, h'); stands = refl })
 
-found_later : (o : OpCode) (ops : List OpCode) (at place r n : ℕ) → Found ops (at + 1) place (rests_by o r) n → Found (o ∷ ops) at place r n
+found_later : (o : OpCode) (ops : List OpCode) (at place r n : ℕ) → Found ops (at + 1) place (rests_by o r) n →
+    Found (o ∷ ops) at place r n
 found_later (op.Suspend s k) ops at place r n f =
     record { index = suc f.index; number = omega (arith, f.number); stands = f.stands }
 found_later _ ops at place r n f = record { index = f.index; number = f.number; stands = f.stands }
@@ -60,19 +61,23 @@ found (o ∷ ops) at zero r s n h e =
     subst (λ q. Found (o ∷ ops) at q r n) place (found_first o ops at r s n same h.0)
 found (o ∷ ops) at (suc i) r s n h e =
     let place : at + 1 + i ≡ at + suc i = omega arith in
-    subst (λ q. Found (o ∷ ops) at q r n) place (found_later o ops at (at + 1 + i) r n (found ops (at + 1) i (rests_by o r) s n h.1 e))
+    subst (λ q. Found (o ∷ ops) at q r n) place (found_later o ops at (at + 1 + i) r n
+    (found ops (at + 1) i (rests_by o r) s n h.1 e))
 
-in_map : (rests : List Rest) (i x : ℕ) → slice_get (map (λ r. r.at) rests) i ≡ Some x → (rest : Rest) × (slice_get rests i ≡ Some rest) × (rest.at ≡ x)
+in_map : (rests : List Rest) (i x : ℕ) → slice_get (map (λ r. r.at) rests) i ≡ Some x →
+    (rest : Rest) × (slice_get rests i ≡ Some rest) × (rest.at ≡ x)
 in_map [] i x e = cc
 in_map (r ∷ rests) zero x e = (r, refl, (cc))
 in_map (r ∷ rests) (suc i) x e = in_map rests i x e
 
 -- numbered rests follow their `Suspend`s
-pub rests_follow : (code : Code) → NumberedFrom 0 code.ops → map (λ r. r.at) code.rests ≡ rest_places 0 code.ops → RestsFollow code
+pub rests_follow : (code : Code) → NumberedFrom 0 code.ops → map (λ r. r.at) code.rests ≡ rest_places 0 code.ops →
+    RestsFollow code
 rests_follow code h e at s n has =
     let f = found code.ops 0 at 0 s n h has in
     let same : f.index ≡ n = omega (arith, f.number) in
-    let stands : slice_get (map (λ r. r.at) code.rests) n ≡ Some (0 + at + 1) = ap (λ l. slice_get l n) e ∙ subst (λ i. slice_get (rest_places 0 code.ops) i ≡ Some (0 + at + 1)) same f.stands in
+    let stands : slice_get (map (λ r. r.at) code.rests) n ≡ Some (0 + at + 1) = ap (λ l. slice_get l n) e
+    ∙ subst (λ i. slice_get (rest_places 0 code.ops) i ≡ Some (0 + at + 1)) same f.stands in
     let x = in_map code.rests n (0 + at + 1) stands in
     let place : 0 + at + 1 ≡ at + 1 = omega arith in
     (x.0, x.1, x.2 ∙ place)

@@ -1,5 +1,6 @@
 -- Which code does what statements say.
-use Rattle.std.specs.Prelude.{ℕ, ◌≡◌, ◌+◌, ◌<◌, ◌≤◌, Bool, true, false, List, [], ◌∷◌, ◌++◌, length, Option, Some, None, slice_get, position, unwrap_or, codes}
+use Rattle.std.specs.Prelude.{ℕ, ◌≡◌, ◌+◌, ◌<◌, ◌≤◌, Bool, true, false, List, [], ◌∷◌, ◌++◌, length, Option, Some, None}
+use Rattle.std.specs.Prelude.{slice_get, position, unwrap_or, codes}
 use Rattle.std.specs.Str.{bytes_eq}
 use Rattle.tw_base.specs.NodeSets.{empty, without}
 use Rattle.tw_base.specs.declared.name.Name.{Name}
@@ -50,7 +51,8 @@ atom_op p names _ = None
 
 -- The ops from the first place up to the second leave the expression's value on the stack.
 pub data Evaluates (p : Protocol) (names : List Name) (ops : List OpCode) : ℕ → Expr → ℕ → Type 0 where
-  atom : {at : ℕ} {e : Expr} {o : OpCode} → atom_op p names (out-Expr e) ≡ Some o → HasOp ops at o → Evaluates p names ops at e (at + 1)
+  atom : {at : ℕ} {e : Expr} {o : OpCode} → atom_op p names (out-Expr e) ≡ Some o → HasOp ops at o →
+      Evaluates p names ops at e (at + 1)
   single :
       {at after : ℕ} {e a : Expr} →
       out-Expr e ≡ Expr-F.One a →
@@ -161,7 +163,8 @@ pub data Follows (p : Protocol) (names : List Name) (width : ℕ) (code : Code) 
       Follows p names width code (after + 1) rest loops →
       Follows p names width code at (s ∷ rest) loops
   suspends :
-      {at after r : ℕ} {s : Stmt} {rest : List Stmt} {loops : List Loop} {label name passed : Name} {args : List Expr} {saved : Rest} →
+      {at after r : ℕ} {s : Stmt} {rest : List Stmt} {loops : List Loop} {label name passed : Name} {args : List Expr}
+      {saved : Rest} →
       what_of s ≡ Do-F.Suspend label name args passed →
       EvaluatesAll p names code.ops at args after →
       HasOp code.ops after (op.Suspend (declared (state_number p name)) r) →
@@ -187,7 +190,8 @@ pub data Follows (p : Protocol) (names : List Name) (width : ℕ) (code : Code) 
       HasOp code.ops after (op.Put slot) →
       slot < width →
       Nested names slot loops →
-      ((set : List Bool) → Follows p names width code (after + 1) (each x set body ∷ rest) (record { slot = slot; set = set } ∷ loops)) →
+      ((set : List Bool) → Follows p names width code (after + 1) (each x set body ∷ rest)
+      (record { slot = slot; set = set } ∷ loops)) →
       Follows p names width code at (s ∷ rest) loops
   ends_loop :
       {at k slot to : ℕ} {set : List Bool} {s : Stmt} {rest body : List Stmt} {loops : List Loop} {x : Name} →
@@ -202,7 +206,8 @@ pub data Follows (p : Protocol) (names : List Name) (width : ℕ) (code : Code) 
       least_of set ≡ Some n →
       slot_of names x ≡ Some k →
       HasOp code.ops at (op.EachNext k slot to) →
-      Follows p names width code (at + 1) (body ++ each x (without set n) body ∷ rest) (record { slot = slot; set = without set n } ∷ loops) →
+      Follows p names width code (at + 1) (body ++ each x (without set n) body ∷ rest)
+      (record { slot = slot; set = without set n } ∷ loops) →
       Follows p names width code at (s ∷ rest) (record { slot = slot; set = set } ∷ loops)
   jumps_back :
       {at to k slot out : ℕ} {stmts : List Stmt} {loops : List Loop} →

@@ -53,7 +53,8 @@ pub data ChainStands (p : Protocol) (code : Code) : List Saved → Option Cont �
       ChainStands p code chain (out-StateVal (out-Cont k).saved).cont →
       ChainStands p code (first ∷ chain) (Some k)
 
-pub record StateStands (p : Protocol) (code : Code) (state : ℕ) (args : List Value) (chain : List Saved) (x : StateVal) : Type 0 where
+pub record StateStands (p : Protocol) (code : Code) (state : ℕ) (args : List Value) (chain : List Saved)
+    (x : StateVal) : Type 0 where
   pub same_state : state ≡ (out-StateVal x).state
   pub same_args : args ≡ (out-StateVal x).args
   pub conts : ChainStands p code chain (out-StateVal x).cont
@@ -107,7 +108,8 @@ pub record EndStands (p : Protocol) (code : Code) (s : Stopped) (e : Ended) : Ty
 
 -- the live slots of each rest hold what is read from it on
 abbrev pub SavesAll : Code → Type 0
-SavesAll code = (r k : ℕ) (rest : Rest) → slice_get code.rests r ≡ Some rest → ReadsFirst code.ops rest.at k → is_live rest k ≡ true
+SavesAll code = (r k : ℕ) (rest : Rest) → slice_get code.rests r ≡ Some rest → ReadsFirst code.ops rest.at k →
+    is_live rest k ≡ true
 
 -- the machine comes to an end that stands for this one
 pub record EndsAlike (p : Protocol) (code : Code) (m : Machine) (e : Ended) : Type 0 where
@@ -118,7 +120,8 @@ pub record EndsAlike (p : Protocol) (code : Code) (m : Machine) (e : Ended) : Ty
 -- Where the statements come to an end, the machine does too, with the same sends, and the same of all else.
 abbrev pub Simulates : Protocol → Code → Type 0
 Simulates p code =
-    (m : Machine) (stmts : List Stmt) (r : Running) (e : Ended) → Stands p code m stmts r → Goes p stmts r e → EndsAlike p code m e
+    (m : Machine) (stmts : List Stmt) (r : Running) (e : Ended) → Stands p code m stmts r → Goes p stmts r e →
+    EndsAlike p code m e
 
 -- how many ops a step of the meaning takes at most: those that lead to the step, and its own
 abbrev pub ops_a_step : Code → ℕ

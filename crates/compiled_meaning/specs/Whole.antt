@@ -80,7 +80,8 @@ rest_doors p at r door (d ∷ entries) =
 
 -- the live slots of each rest are those that are read from it on before they are written
 abbrev pub IsLive : Code → Type 0
-IsLive code = (r k : ℕ) (rest : Rest) → slice_get code.rests r ≡ Some rest → (is_live rest k ≡ true) ↔ ReadsFirst code.ops rest.at k
+IsLive code = (r k : ℕ) (rest : Rest) → slice_get code.rests r ≡ Some rest →
+    (is_live rest k ≡ true) ↔ ReadsFirst code.ops rest.at k
 
 -- the code of the protocol's handlers
 pub record IsCode (p : Protocol) (code : Code) : Type 0 where
@@ -98,7 +99,8 @@ pub record CellStands (p : Protocol) (code : Code) (cell : Cell) (chain : List S
   pub state : StateStands p code cell.state cell.args chain here.state
 
 -- the message enters the code and comes to an end that stands for this one
-pub record EntersAlike (p : Protocol) (code : Code) (here : Here) (cell : Cell) (chain : List Saved) (m : Message) (e : Ended) : Type 0 where
+pub record EntersAlike (p : Protocol) (code : Code) (here : Here) (cell : Cell) (chain : List Saved) (m : Message)
+    (e : Ended) : Type 0 where
   pub stopped : Stopped
   pub enters : Enters p code here.me here.home here.block here.tag here.words cell chain m stopped
   pub stands : EndStands p code stopped e

@@ -1,5 +1,6 @@
 -- Counts of what stands in a list once.
-use Rattle.std.proofs.Common.{◌≡◌, ◌∙◌, ℕ, zero, suc, ◌+◌, ◌<◌, Bool, true, false, List, [], ◌∷◌, Some, refl, ap, sym, subst, arith, drop, take}
+use Rattle.std.proofs.Common.{◌≡◌, ◌∙◌, ℕ, zero, suc, ◌+◌, ◌<◌, Bool, true, false, List, [], ◌∷◌, Some, refl, ap, sym, subst}
+use Rattle.std.proofs.Common.{arith, drop, take}
 use Rattle.std.specs.Prelude.{cond, count_by, slice_get, ◌||◌}
 use Rattle.std.specs.List.{list_any}
 use Rattle.std.proofs.lemmas.List.Recursion.{is_count_by}
@@ -12,13 +13,15 @@ counted f (x ∷ xs) = cond (f x) (1 + counted f xs) (counted f xs)
 counted-is : {X : Type 0} (f : X → Bool) (xs : List X) → counted f xs ≡ count_by f xs
 counted-is f xs = is_count_by (counted f) f refl (λ y ys. refl) xs
 
-counted_none : {X : Type 0} (f : X → Bool) (xs : List X) → ((j : ℕ) (y : X) → slice_get xs j ≡ Some y → f y ≡ true → ⊥) → counted f xs ≡ 0
+counted_none : {X : Type 0} (f : X → Bool) (xs : List X) → ((j : ℕ) (y : X) → slice_get xs j ≡ Some y → f y ≡ true → ⊥) →
+    counted f xs ≡ 0
 counted_none f [] g = refl
 counted_none f (x ∷ xs) g =
     let never : f x ≡ false = is_false (f x) (λ e. g 0 x refl e) in
     ap (λ b. cond b (1 + counted f xs) (counted f xs)) never ∙ counted_none f xs (λ j y e. g (suc j) y e)
 
-counted_one : {X : Type 0} (f : X → Bool) (xs : List X) (i : ℕ) (x : X) → slice_get xs i ≡ Some x → f x ≡ true → ((j : ℕ) (y : X) → slice_get xs j ≡ Some y → f y ≡ true → j ≡ i) → counted f xs ≡ 1
+counted_one : {X : Type 0} (f : X → Bool) (xs : List X) (i : ℕ) (x : X) → slice_get xs i ≡ Some x → f x ≡ true →
+    ((j : ℕ) (y : X) → slice_get xs j ≡ Some y → f y ≡ true → j ≡ i) → counted f xs ≡ 1
 counted_one f [] i x e t g = cc
 counted_one f (y ∷ xs) zero x e t g =
     let same : x ≡ y = cc in
@@ -30,10 +33,12 @@ counted_one f (y ∷ xs) (suc i) x e t g =
     let one = counted_one f xs i x e t (λ j z h u. let w = g (suc j) z h u in omega arith) in
     ap (λ b. cond b (1 + counted f xs) (counted f xs)) never ∙ one
 
-pub count_one : {X : Type 0} (f : X → Bool) (xs : List X) (i : ℕ) (x : X) → slice_get xs i ≡ Some x → f x ≡ true → ((j : ℕ) (y : X) → slice_get xs j ≡ Some y → f y ≡ true → j ≡ i) → count_by f xs ≡ 1
+pub count_one : {X : Type 0} (f : X → Bool) (xs : List X) (i : ℕ) (x : X) → slice_get xs i ≡ Some x → f x ≡ true →
+    ((j : ℕ) (y : X) → slice_get xs j ≡ Some y → f y ≡ true → j ≡ i) → count_by f xs ≡ 1
 count_one f xs i x e t g = sym (counted-is f xs) ∙ counted_one f xs i x e t g
 
-pub any_none : {X : Type 0} (f : X → Bool) (xs : List X) → ((j : ℕ) (y : X) → slice_get xs j ≡ Some y → f y ≡ true → ⊥) → list_any f xs ≡ false
+pub any_none : {X : Type 0} (f : X → Bool) (xs : List X) → ((j : ℕ) (y : X) → slice_get xs j ≡ Some y → f y ≡ true → ⊥) →
+    list_any f xs ≡ false
 any_none f [] g = refl
 any_none f (x ∷ xs) g =
     let never : f x ≡ false = is_false (f x) (λ e. g 0 x refl e) in
@@ -59,7 +64,8 @@ get_drop (y ∷ xs) (suc n) j x e =
     let z : suc n + j ≡ suc (n + j) = omega arith in
     get_drop xs n j x (subst (λ k. slice_get (y ∷ xs) k ≡ Some x) z e)
 
-pub take_get : {X : Type 0} (xs : List X) (m j : ℕ) (x : X) → slice_get (take m xs) j ≡ Some x → (j < m) × (slice_get xs j ≡ Some x)
+pub take_get : {X : Type 0} (xs : List X) (m j : ℕ) (x : X) → slice_get (take m xs) j ≡ Some x →
+    (j < m) × (slice_get xs j ≡ Some x)
 take_get xs zero j x e = absurd (none xs j x e)
   where
     none : {Y : Type 0} (ys : List Y) (i : ℕ) (y : Y) → slice_get (take 0 ys) i ≡ Some y → ⊥

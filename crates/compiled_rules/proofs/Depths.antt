@@ -1,5 +1,6 @@
 -- The stack serves the code of an accepted protocol.
-use Rattle.std.proofs.Common.{◌≡◌, ◌∙◌, ℕ, ◌+◌, ◌-◌, ◌≤◌, true, false, if◌then◌else◌, List, length, Option, Some, None, refl, ap, subst, arith}
+use Rattle.std.proofs.Common.{◌≡◌, ◌∙◌, ℕ, ◌+◌, ◌-◌, ◌≤◌, true, false, if◌then◌else◌, List, length, Option, Some, None, refl}
+use Rattle.std.proofs.Common.{ap, subst, arith}
 use Rattle.std.specs.Prelude.{codes, nat_le, slice_get, ◌&&◌, ◌==◌}
 use Rattle.std.proofs.lemmas.Bool.{and_parts, eq-eqb}
 use Rattle.tw_base.specs.Lists.{Each}
@@ -11,7 +12,8 @@ use Rattle.teapot_tree.specs.declared.protocol.Handler.{Handler}
 use Rattle.teapot_tree.specs.declared.protocol.MessageDecl.{MessageDecl}
 use Rattle.teapot_tree.specs.declared.protocol.Protocol.{Protocol}
 use Rattle.teapot_tree.specs.declared.protocol.State.{State}
-use Rattle.teapot_tree.specs.Bodies.{Simple, assign, send, send_all, set_tag, set_state, suspend, resume, install, enqueue, wake_up, error}
+use Rattle.teapot_tree.specs.Bodies.{Simple, assign, send, send_all, set_tag, set_state, suspend, resume, install, enqueue}
+use Rattle.teapot_tree.specs.Bodies.{wake_up, error}
 use Rattle.teapot_tree.specs.Grammar.{IsTree}
 use Rattle.teapot_tree.specs.Parts.{depth, depth_step, simple_exprs}
 use Rattle.teapot_tree.specs.Paths.{does}
@@ -46,11 +48,13 @@ module _ (p : Protocol) where
   value_served : (o : OpCode) (d : ℕ) → is_value o ≡ true → taken_by p o ≤ d → d ≤ taken_by p o + 23 → is_served p o d ≡ true
   value_served o d e few room =
       let n : depth_after p o d ≤ 24 = omega (arith, after_value o d e) in
-      ap (λ b. if b then nat_le (taken_by p o) d && nat_le (depth_after p o d) 24 else (d == taken_by p o)) e ∙ both _ _ (le_true (taken_by p o) d few) (le_true (depth_after p o d) 24 n)
+      ap (λ b. if b then nat_le (taken_by p o) d && nat_le (depth_after p o d) 24 else (d == taken_by p o)) e
+      ∙ both _ _ (le_true (taken_by p o) d few) (le_true (depth_after p o d) 24 n)
 
   other_served : (o : OpCode) (d : ℕ) → is_value o ≡ false → d ≡ taken_by p o → is_served p o d ≡ true
   other_served o d e f =
-      ap (λ b. if b then nat_le (taken_by p o) d && nat_le (depth_after p o d) 24 else (d == taken_by p o)) e ∙ eq-eqb d (taken_by p o) f
+      ap (λ b. if b then nat_le (taken_by p o) d && nat_le (depth_after p o d) 24 else (d == taken_by p o)) e
+      ∙ eq-eqb d (taken_by p o) f
 
   pub value_leads : (o : OpCode) (to : ℕ) → is_value o ≡ true → target o ≡ Some to → ⊥
   value_leads (op.Jump x) to e f = cc (e)
@@ -102,7 +106,8 @@ deep e = let k = step_deep (map-Expr Expr ℕ depth (out-Expr e)) in omega (arit
 
 -- ---- expressions, where D says how many values are there before each place
 
-module _ (p : Protocol) (names : List Name) (ops : List OpCode) (from : ℕ) (D : ℕ → ℕ) (step : (a : ℕ) (o : OpCode) → from ≤ a → HasOp ops a o → D (a + 1) ≡ depth_after p o (D a)) where
+module _ (p : Protocol) (names : List Name) (ops : List OpCode) (from : ℕ) (D : ℕ → ℕ)
+    (step : (a : ℕ) (o : OpCode) → from ≤ a → HasOp ops a o → D (a + 1) ≡ depth_after p o (D a)) where
   -- it is served, and leads only to where there are none
   pub record IsServed (a : ℕ) (o : OpCode) : Type 0 where
     pub served : is_served p o (D a) ≡ true
@@ -113,11 +118,18 @@ module _ (p : Protocol) (names : List Name) (ops : List OpCode) (from : ℕ) (D 
     pub over : Over ops IsServed at after
     pub more : D after ≡ D at + n
 
-  one_value : (at : ℕ) (o : OpCode) → from ≤ at → HasOp ops at o → is_value o ≡ true → taken_by p o ≤ D at → D at ≤ taken_by p o + 23 → Over ops IsServed at (at + 1) × (D (at + 1) ≡ D at - taken_by p o + 1)
-  one_value at o f has e few room =
-      (over_one ops IsServed at o has (record { served = value_served p o (D at) e few room; leads = λ to g. absurd (value_leads p o to e g) }), step at o f has ∙ after_value p o (D at) e)
+  one_value : (at : ℕ) (o : OpCode) → from ≤ at → HasOp ops at o → is_value o ≡ true → taken_by p o ≤ D at →
+      D at ≤ taken_by p o + 23 → Over ops IsServed at (at + 1) × (D (at + 1) ≡ D at - taken_by p o + 1)
+  one_value at o f has e few room = (
+    over_one ops IsServed at o has (record {
+      served = value_served p o (D at) e few room;
+      leads = λ to g. absurd (value_leads p o to e g);
+    }),
+    step at o f has ∙ after_value p o (D at) e,
+  )
 
-  one_more : (at after : ℕ) (o : OpCode) → from ≤ after → HasOp ops after o → is_value o ≡ true → taken_by p o ≡ 1 → D at ≤ 23 → Grows 1 at after → Grows 1 at (after + 1)
+  one_more : (at after : ℕ) (o : OpCode) → from ≤ after → HasOp ops after o → is_value o ≡ true → taken_by p o ≡ 1 →
+      D at ≤ 23 → Grows 1 at after → Grows 1 at (after + 1)
   one_more at after o f has e t room g =
       let k = g.more in
       let x = one_value after o f has e (omega arith) (omega arith) in
@@ -162,7 +174,8 @@ module _ (p : Protocol) (names : List Name) (ops : List OpCode) (from : ℕ) (D 
         more = omega arith;
       }
 
-  pub all_grow : {at after : ℕ} {es : List Expr} → EvaluatesAll p names ops at es after → from ≤ at → Each Shallow es → D at + length es ≤ 9 → Grows (length es) at after
+  pub all_grow : {at after : ℕ} {es : List Expr} → EvaluatesAll p names ops at es after → from ≤ at → Each Shallow es →
+      D at + length es ≤ 9 → Grows (length es) at after
   all_grow (follows.none {at = at}) f s room = record { over = over_none ops IsServed at; more = omega arith }
   all_grow (follows.more {at = at} {middle = middle} {after = after} {e = e} {es = es} x xs) f s room =
       let up = rises p names ops x in
@@ -178,7 +191,8 @@ module _ (p : Protocol) (names : List Name) (ops : List OpCode) (from : ℕ) (D 
 module _ (p : Protocol) (tree : IsTree p) where
   pub message_few : (o : Option MessageDecl) (k : ℕ) → slice_get p.messages k ≡ o → message_arity o ≤ 4
   message_few None k e = omega arith
-  message_few (Some m) k e = each_at (λ (x : MessageDecl). length x.args ≤ 4) p.messages m (slice_has p.messages k m e) tree.few_message_args
+  message_few (Some m) k e = each_at (λ (x : MessageDecl). length x.args ≤ 4) p.messages m
+      (slice_has p.messages k m e) tree.few_message_args
 
   state_few : (o : Option State) (k : ℕ) → slice_get p.states k ≡ o → state_arity o ≤ 4
   state_few None k e = omega arith
@@ -204,7 +218,8 @@ module _ (p : Protocol) (tree : IsTree p) where
     by_last : (a : Simple) (o o' : OpCode) → Some o ≡ Some o' → Takes a o → Takes a o'
     by_last a o o' e x = let same : o ≡ o' = cc in subst (Takes a) same x
 
-    takes : (a : Simple) (o : OpCode) (r : ℕ) → Keeps (scope_of p t h) (does a) → last_op p (names_in t h) a r ≡ Some o → Takes a o
+    takes : (a : Simple) (o : OpCode) (r : ℕ) → Keeps (scope_of p t h) (does a) → last_op p (names_in t h) a r ≡ Some o →
+        Takes a o
     takes (assign n e) o r k f = put_takes n e (slot_of (names_in t h) n) (info_number p n) o f
     takes (send e n xs) o r k f =
         let c = message_counted p n (length xs) k.declared k.counted in
@@ -219,7 +234,8 @@ module _ (p : Protocol) (tree : IsTree p) where
         let few = state_few (slice_get p.states (declared (state_number p n))) (declared (state_number p n)) refl in
         by_last (set_state n xs) _ o f (record { other = refl; next = refl; count = c; few = omega arith })
     takes (suspend l n xs q) o r k f =
-        let c = state_counted p n (length xs) (and_parts (is_some (state_of p n)) _ k.declared).0 (and_parts (is_state_count (state_of p n) (length xs)) _ k.counted).0 in
+        let c = state_counted p n (length xs) (and_parts (is_some (state_of p n)) _ k.declared).0
+        (and_parts (is_state_count (state_of p n) (length xs)) _ k.counted).0 in
         let few = state_few (slice_get p.states (declared (state_number p n))) (declared (state_number p n)) refl in
         by_last (suspend l n xs q) _ o f (record { other = refl; next = refl; count = c; few = omega arith })
     takes (set_tag g) o r k f = by_last (set_tag g) _ o f (record { other = refl; next = refl; count = refl; few = omega arith })
@@ -229,7 +245,8 @@ module _ (p : Protocol) (tree : IsTree p) where
     takes wake_up o r k f = by_last wake_up _ o f (record { other = refl; next = refl; count = refl; few = omega arith })
     takes (error n) o r k f = by_last (error n) _ o f (record { other = refl; next = refl; count = refl; few = omega arith })
 
-    module _ (ops : List OpCode) (from : ℕ) (D : ℕ → ℕ) (step : (a : ℕ) (o : OpCode) → from ≤ a → HasOp ops a o → D (a + 1) ≡ depth_after p o (D a)) where
+    module _ (ops : List OpCode) (from : ℕ) (D : ℕ → ℕ) (step : (a : ℕ) (o : OpCode) → from ≤ a → HasOp ops a o →
+        D (a + 1) ≡ depth_after p o (D a)) where
       abbrev Is : ℕ → OpCode → Type 0
       Is = IsServed p (names_in t h) ops from D step
 
@@ -243,7 +260,8 @@ module _ (p : Protocol) (tree : IsTree p) where
       Serves lo hi k i = from ≤ lo → D lo ≡ 0 → Clears lo hi
 
       -- an op that leaves none
-      one_other : (at : ℕ) (o : OpCode) → from ≤ at → HasOp ops at o → is_value o ≡ false → D at ≡ taken_by p o → ((to : ℕ) → target o ≡ Some to → D to ≡ 0) → Clears at (at + 1)
+      one_other : (at : ℕ) (o : OpCode) → from ≤ at → HasOp ops at o → is_value o ≡ false → D at ≡ taken_by p o →
+          ((to : ℕ) → target o ≡ Some to → D to ≡ 0) → Clears at (at + 1)
       one_other at o f has e d leads = record {
         up = omega arith;
         over = over_one ops Is at o has (record { served = other_served p o (D at) e d; leads = leads });
@@ -258,7 +276,8 @@ module _ (p : Protocol) (tree : IsTree p) where
           let u = g.up in
           record { up = omega arith; over = over_joined ops Is lo mid hi f g.over; clear = g.clear }
 
-      tested_expr : (e : Expr) (at after : ℕ) → from ≤ at → D at ≡ 0 → Shallow e → Evaluates p (names_in t h) ops at e after → Grows p (names_in t h) ops from D step 1 at after
+      tested_expr : (e : Expr) (at after : ℕ) → from ≤ at → D at ≡ 0 → Shallow e → Evaluates p (names_in t h) ops at e after →
+          Grows p (names_in t h) ops from D step 1 at after
       tested_expr e at after f z s x = grows p (names_in t h) ops from D step x f (omega arith)
 
       pub serves : Closed p t h ops Serves
@@ -275,13 +294,16 @@ module _ (p : Protocol) (tree : IsTree p) where
             let u = all_rise p (names_in t h) ops ev in
             let g = all_grow p (names_in t h) ops from D step ev f shallow (omega arith) in
             let more = g.more in
-            both_clear at last (last + 1) u g.over (one_other last o (omega arith) has w.other (omega arith) (λ to e. absurd (let n = w.next in cc)));
+            both_clear at last (last + 1) u g.over (one_other last o (omega arith) has w.other (omega arith)
+            (λ to e. absurd (let n = w.next in cc)));
         tested = λ e at after to k i keeps shallow ev has x f z.
             let u = rises p (names_in t h) ops ev in
             let g = tested_expr e at after f z shallow ev in
             let more = g.more in
             let y = x (omega arith) (cleared after (op.JumpIfNot to) (omega arith) has refl) in
-            both_clear at after to (omega arith) g.over (both_clear after (after + 1) to (omega arith) (one_other after (op.JumpIfNot to) (omega arith) has refl (omega arith) (λ q e. let same : to ≡ q = cc in subst (λ w. D w ≡ 0) same y.clear)).over y);
+            both_clear at after to (omega arith) g.over (both_clear after (after + 1) to (omega arith)
+            (one_other after (op.JumpIfNot to) (omega arith) has refl (omega arith)
+            (λ q e. let same : to ≡ q = cc in subst (λ w. D w ≡ 0) same y.clear)).over y);
         branched = λ e at after mid to k i j keeps shallow ev has x jump y f z.
             let u = rises p (names_in t h) ops ev in
             let g = tested_expr e at after f z shallow ev in
@@ -291,9 +313,12 @@ module _ (p : Protocol) (tree : IsTree p) where
             let za = a.clear in
             let zb = cleared mid (op.Jump to) (omega arith) jump refl in
             let b = y (omega arith) zb in
-            let test = one_other after (op.JumpIfNot (mid + 1)) (omega arith) has refl (omega arith) (λ q e. let same : mid + 1 ≡ q = cc in subst (λ w. D w ≡ 0) same zb) in
-            let over = one_other mid (op.Jump to) (omega arith) jump refl (omega arith) (λ q e. let same : to ≡ q = cc in subst (λ w. D w ≡ 0) same b.clear) in
-            both_clear at after to (omega arith) g.over (both_clear after (after + 1) to (omega arith) test.over (both_clear (after + 1) mid to ua a.over (both_clear mid (mid + 1) to (omega arith) over.over b)));
+            let test = one_other after (op.JumpIfNot (mid + 1)) (omega arith) has refl (omega arith)
+            (λ q e. let same : mid + 1 ≡ q = cc in subst (λ w. D w ≡ 0) same zb) in
+            let over = one_other mid (op.Jump to) (omega arith) jump refl (omega arith)
+            (λ q e. let same : to ≡ q = cc in subst (λ w. D w ≡ 0) same b.clear) in
+            both_clear at after to (omega arith) g.over (both_clear after (after + 1) to (omega arith) test.over
+            (both_clear (after + 1) mid to ua a.over (both_clear mid (mid + 1) to (omega arith) over.over b)));
         looped = λ v e s at after end k i keeps shallow slot ev put next x back f z.
             let u = rises p (names_in t h) ops ev in
             let g = tested_expr e at after f z shallow ev in
@@ -305,7 +330,12 @@ module _ (p : Protocol) (tree : IsTree p) where
             let zb = b.clear in
             let z3 = cleared end (op.JumpBack (after + 1)) (omega arith) back refl in
             let first = one_other after (op.Put k) (omega arith) put refl (omega arith) (λ q e. absurd (cc)) in
-            let second = one_other (after + 1) (op.EachNext s k (end + 1)) (omega arith) next refl (omega arith) (λ q e. let same : end + 1 ≡ q = cc in subst (λ w. D w ≡ 0) same z3) in
-            let last = one_other end (op.JumpBack (after + 1)) (omega arith) back refl (omega arith) (λ q e. let same : after + 1 ≡ q = cc in subst (λ w. D w ≡ 0) same z1) in
-            both_clear at after (end + 1) (omega arith) g.over (both_clear after (after + 1) (end + 1) (omega arith) first.over (both_clear (after + 1) (after + 1 + 1) (end + 1) (omega arith) second.over (both_clear (after + 1 + 1) end (end + 1) ub b.over last)));
+            let second = one_other (after + 1) (op.EachNext s k (end + 1)) (omega arith) next refl (omega arith)
+            (λ q e. let same : end + 1 ≡ q = cc in subst (λ w. D w ≡ 0) same z3) in
+            let last = one_other end (op.JumpBack (after + 1)) (omega arith) back refl (omega arith)
+            (λ q e. let same : after + 1 ≡ q = cc in subst (λ w. D w ≡ 0) same z1) in
+            both_clear at after (end + 1) (omega arith) g.over
+            (both_clear after (after + 1) (end + 1) (omega arith) first.over
+            (both_clear (after + 1) (after + 1 + 1) (end + 1) (omega arith) second.over
+            (both_clear (after + 1 + 1) end (end + 1) ub b.over last)));
       }

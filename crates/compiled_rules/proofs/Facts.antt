@@ -1,5 +1,6 @@
 -- What is known of each handler in the code of an accepted protocol.
-use Rattle.std.proofs.Common.{◌≡◌, ◌∙◌, ℕ, zero, suc, ◌+◌, ◌<◌, ◌≤◌, ◌⊎◌, true, List, [], ◌∷◌, length, Some, refl, ap, sym, subst, arith, inl, inr}
+use Rattle.std.proofs.Common.{◌≡◌, ◌∙◌, ℕ, zero, suc, ◌+◌, ◌<◌, ◌≤◌, ◌⊎◌, true, List, [], ◌∷◌, length, Some, refl, ap, sym}
+use Rattle.std.proofs.Common.{subst, arith, inl, inr}
 use Rattle.std.specs.Prelude.{slice_get, unwrap_or, Contains}
 use Rattle.std.proofs.lemmas.Option.{slice_get_within}
 use Rattle.tw_base.specs.Lists.{Each}
@@ -45,7 +46,8 @@ op_is code a o e = ap (λ x. unwrap_or x op.Done) e
 pub rests_stand : (p : Protocol) (code : Code) → IsAccepted p → IsCode p code → RestsFollow code
 rests_stand p code a c = rests p code c (all_fine p a)
 
-module _ (p : Protocol) (code : Code) (a : IsAccepted p) (c : IsCode p code) (number : ℕ) (door : Door) (x : Handled p code number door) where
+module _ (p : Protocol) (code : Code) (a : IsAccepted p) (c : IsCode p code) (number : ℕ) (door : Door)
+    (x : Handled p code number door) where
   abbrev state : State
   state = x.entry.state
 
@@ -59,13 +61,16 @@ module _ (p : Protocol) (code : Code) (a : IsAccepted p) (c : IsCode p code) (nu
   has_handler = let o = x.of in o.handler
 
   pub no_each : eaches (body_of handler.body) ≡ 0
-  no_each = each_at (λ (k : Handler). eaches (body_of k.body) ≡ 0) state.handlers handler has_handler (each_flat _ (λ (s : State). s.handlers) p.states state has_state a.tree.no_each)
+  no_each = each_at (λ (k : Handler). eaches (body_of k.body) ≡ 0) state.handlers handler has_handler
+      (each_flat _ (λ (s : State). s.handlers) p.states state has_state a.tree.no_each)
 
   shallow : Each Shallow (exprs_of handler)
-  shallow = each_at (λ (k : Handler). Each (λ (e : Expr). depth e ≤ 16) (exprs_of k)) state.handlers handler has_handler (each_flat _ (λ (s : State). s.handlers) p.states state has_state a.tree.shallow)
+  shallow = each_at (λ (k : Handler). Each (λ (e : Expr). depth e ≤ 16) (exprs_of k)) state.handlers handler has_handler
+      (each_flat _ (λ (s : State). s.handlers) p.states state has_state a.tree.shallow)
 
   sound : are_sound (scope_of p state handler) (tree_of (body_of handler.body)) ≡ true
-  sound = subst (λ ss. are_sound (scope_of p state handler) ss ≡ true) (sym (tree-body handler.body)) (sound_body p state handler a has_state has_handler)
+  sound = subst (λ ss. are_sound (scope_of p state handler) ss ≡ true) (sym (tree-body handler.body))
+      (sound_body p state handler a has_state has_handler)
 
   pub width : ℕ
   width = length (names_of x.entry) + loops_in (body_code p x.entry door.at x.rest)
@@ -78,12 +83,19 @@ module _ (p : Protocol) (code : Code) (a : IsAccepted p) (c : IsCode p code) (nu
       omega (arith, k, loops_in-append body (op.Done ∷ []))
 
   -- what is closed holds of the handler
-  pub holds : (Q : ℕ → ℕ → ℕ → ℕ → Type 0) → Closed p state handler code.ops Q → Q door.at x.fin (length (names_of x.entry)) door.slots
+  pub holds : (Q : ℕ → ℕ → ℕ → ℕ → Type 0) → Closed p state handler code.ops Q →
+      Q door.at x.fin (length (names_of x.entry)) door.slots
   holds Q q =
       let n = length (names_of x.entry) in
       let go = walk p state handler code.ops Q q (body_of handler.body) no_each sound shallow in
-      let all : (at r k : ℕ) → HasAt code.ops at (code_of p (names_of x.entry) handler.body at r k) → Q at (at + length (code_of p (names_of x.entry) handler.body at r k)) k (k + loops_in (code_of p (names_of x.entry) handler.body at r k)) = subst (λ (ss : List Stmt). (at r k : ℕ) → HasAt code.ops at (code_of p (names_of x.entry) ss at r k) → Q at (at + length (code_of p (names_of x.entry) ss at r k)) k (k + loops_in (code_of p (names_of x.entry) ss at r k))) (tree-body handler.body) go in
-      subst (λ z. Q door.at x.fin n z) (sym slots_are) (subst (λ z. Q door.at z n (n + loops_in (body_code p x.entry door.at x.rest))) (sym x.fin-is) (all door.at x.rest n x.has))
+      let all : (at r k : ℕ) → HasAt code.ops at (code_of p (names_of x.entry) handler.body at r k) →
+      Q at (at + length (code_of p (names_of x.entry) handler.body at r k)) k
+      (k + loops_in (code_of p (names_of x.entry) handler.body at r k)) =
+      subst (λ (ss : List Stmt). (at r k : ℕ) → HasAt code.ops at (code_of p (names_of x.entry) ss at r k) →
+      Q at (at + length (code_of p (names_of x.entry) ss at r k)) k
+      (k + loops_in (code_of p (names_of x.entry) ss at r k))) (tree-body handler.body) go in
+      subst (λ z. Q door.at x.fin n z) (sym slots_are) (subst
+      (λ z. Q door.at z n (n + loops_in (body_code p x.entry door.at x.rest))) (sym x.fin-is) (all door.at x.rest n x.has))
 
   pub is_neat : Neat p (names_of x.entry) code.ops door.at x.fin (length (names_of x.entry)) door.slots
   is_neat = holds _ (neat p state handler code.ops) (omega arith)
@@ -92,7 +104,8 @@ module _ (p : Protocol) (code : Code) (a : IsAccepted p) (c : IsCode p code) (nu
   fin_there = slice_get_within code.ops x.fin op.Done x.done
 
   -- each op of the handler, and its last
-  pub each_op : (P : OpCode → Type 0) (at : ℕ) → door.at ≤ at → at < end_of code number → (at ≡ x.fin → P op.Done) → (at < x.fin → HasOp code.ops at (op_at code at) → P (op_at code at)) → P (op_at code at)
+  pub each_op : (P : OpCode → Type 0) (at : ℕ) → door.at ≤ at → at < end_of code number → (at ≡ x.fin → P op.Done) →
+      (at < x.fin → HasOp code.ops at (op_at code at) → P (op_at code at)) → P (op_at code at)
   each_op P at l u done f = by_side (before_or at x.fin)
     where
       by_side : (at < x.fin) ⊎ (x.fin ≤ at) → P (op_at code at)

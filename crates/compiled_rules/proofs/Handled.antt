@@ -1,5 +1,6 @@
 -- Where the code of each handler stands.
-use Rattle.std.proofs.Common.{◌≡◌, ◌∙◌, ℕ, zero, suc, ◌+◌, List, [], ◌∷◌, ◌++◌, length, length-append, Some, refl, ap, sym, subst, arith}
+use Rattle.std.proofs.Common.{◌≡◌, ◌∙◌, ℕ, zero, suc, ◌+◌, List, [], ◌∷◌, ◌++◌, length, length-append, Some, refl, ap, sym}
+use Rattle.std.proofs.Common.{subst, arith}
 use Rattle.std.specs.Prelude.{map, slice_get, Contains}
 use Rattle.tw_base.specs.declared.name.Name.{Name}
 use Rattle.tw_base.specs.Lists.{Each}
@@ -33,11 +34,15 @@ record Here (p : Protocol) (ops : List OpCode) (entries : List Entry) (door : Do
   next-is : next ≡ at + length (entry_code p entry at rest 0)
 
 module _ (p : Protocol) (ops : List OpCode) where
-  pub next_place : (entries : List Entry) (at r h : ℕ) → place_or (slice_get (doors_from p at r entries) 0) (at + length (in_order (map (entry_code p) entries) at r h)) ≡ at
+  pub next_place : (entries : List Entry) (at r h : ℕ) → place_or (slice_get (doors_from p at r entries) 0)
+      (at + length (in_order (map (entry_code p) entries) at r h)) ≡ at
   next_place [] at r h = omega arith
   next_place (d ∷ entries) at r h = refl
 
-  here : (entries : List Entry) (at r h number : ℕ) (door : Door) → HasAt ops at (in_order (map (entry_code p) entries) at r h) → slice_get (doors_from p at r entries) number ≡ Some door → Here p ops entries door number (place_or (slice_get (doors_from p at r entries) (suc number)) (at + length (in_order (map (entry_code p) entries) at r h)))
+  here : (entries : List Entry) (at r h number : ℕ) (door : Door) →
+      HasAt ops at (in_order (map (entry_code p) entries) at r h) → slice_get (doors_from p at r entries) number ≡ Some door →
+      Here p ops entries door number (place_or (slice_get (doors_from p at r entries) (suc number))
+      (at + length (in_order (map (entry_code p) entries) at r h)))
   here [] at r h number door has e = cc
   here (d ∷ entries) at r h zero door has e =
       let c = entry_code p d at r 0 in
@@ -50,7 +55,8 @@ module _ (p : Protocol) (ops : List OpCode) where
         is_entry = refl;
         door-is = cc;
         has = has_front ops at c more has;
-        next-is = ap (place_or (slice_get (doors_from p (at + length c) (r + rests_in c) entries) 0)) all ∙ next_place entries (at + length c) (r + rests_in c) (h + loops_in c);
+        next-is = ap (place_or (slice_get (doors_from p (at + length c) (r + rests_in c) entries) 0)) all
+            ∙ next_place entries (at + length c) (r + rests_in c) (h + loops_in c);
       }
   here (d ∷ entries) at r h (suc number) door has e =
       let c = entry_code p d at r 0 in
@@ -74,15 +80,21 @@ pub record IsOf (p : Protocol) (d : Entry) : Type 0 where
   pub handler : Contains d.state.handlers d.handler
 
 module _ (p : Protocol) where
-  of_state : (number : ℕ) (s : State) → slice_get p.states number ≡ Some s → (hs : List Handler) → ((h : Handler) → Contains hs h → Contains s.handlers h) → (entries : List Entry) → Each (IsOf p) entries → Each (IsOf p) (map (λ h. record { number = number; state = s; handler = h }) hs ++ entries)
+  of_state : (number : ℕ) (s : State) → slice_get p.states number ≡ Some s → (hs : List Handler) →
+      ((h : Handler) → Contains hs h → Contains s.handlers h) → (entries : List Entry) → Each (IsOf p) entries →
+      Each (IsOf p) (map (λ h. record { number = number; state = s; handler = h }) hs ++ entries)
   of_state number s i [] up entries f = f
-  of_state number s i (h ∷ hs) up entries f =
-      (record { is_state = i; handler = up h (contains_first h hs) }, of_state number s i hs (λ k c. up k (contains_later h k hs c)) entries f)
+  of_state number s i (h ∷ hs) up entries f = (
+    record { is_state = i; handler = up h (contains_first h hs) },
+    of_state number s i hs (λ k c. up k (contains_later h k hs c)) entries f,
+  )
 
-  of_states : (number : ℕ) (states : List State) → ((j : ℕ) (s : State) → slice_get states j ≡ Some s → slice_get p.states (number + j) ≡ Some s) → Each (IsOf p) (entries_from number states)
+  of_states : (number : ℕ) (states : List State) → ((j : ℕ) (s : State) → slice_get states j ≡ Some s →
+      slice_get p.states (number + j) ≡ Some s) → Each (IsOf p) (entries_from number states)
   of_states number [] up = tt
   of_states number (s ∷ states) up =
-      let first : slice_get p.states number ≡ Some s = let z : number + 0 ≡ number = omega arith in subst (λ k. slice_get p.states k ≡ Some s) z (up 0 s refl) in
+      let first : slice_get p.states number ≡ Some s = let z : number + 0 ≡ number =
+      omega arith in subst (λ k. slice_get p.states k ≡ Some s) z (up 0 s refl) in
       of_state number s first s.handlers (λ h c. c) (entries_from (number + 1) states) (of_states (number + 1) states (λ j t e.
       let z : number + suc j ≡ number + 1 + j = omega arith in
       subst (λ k. slice_get p.states k ≡ Some t) z (up (suc j) t e)))
@@ -118,17 +130,22 @@ pub record HandledAt (p : Protocol) (code : Code) (number : ℕ) (door : Door) (
 abbrev pub Handled : Protocol → Code → ℕ → Door → Type 0
 Handled p code number door = HandledAt p code number door door.at
 
-pub handled : (p : Protocol) (code : Code) → IsCode p code → (number : ℕ) (door : Door) → slice_get code.doors number ≡ Some door → Handled p code number door
+pub handled : (p : Protocol) (code : Code) → IsCode p code → (number : ℕ) (door : Door) →
+    slice_get code.doors number ≡ Some door → Handled p code number door
 handled p code c number door e =
     let ops = entries_code p (entries_of p) in
     let all = subst (λ l. HasAt l 0 ops) (sym c.ops) (has_all ops []) in
-    let e' : slice_get (doors_from p 0 0 (entries_of p)) number ≡ Some door = subst (λ l. slice_get l number ≡ Some door) c.doors e in
+    let e' : slice_get (doors_from p 0 0 (entries_of p)) number ≡ Some door =
+    subst (λ l. slice_get l number ≡ Some door) c.doors e in
     let x = here p code.ops (entries_of p) 0 0 0 number door all e' in
     let at : x.at ≡ door.at = sym (ap (λ (d : Door). d.at) x.door-is) in
     let body = body_code p x.entry x.at x.rest in
     let ends : number + 1 ≡ suc number = omega arith in
     let total : 0 + length ops ≡ length code.ops = omega (arith, ap length c.ops) in
-    let next : end_of code number ≡ x.at + length (body ++ op.Done ∷ []) = ap (λ k. place_or (slice_get code.doors k) (length code.ops)) ends ∙ (ap (λ l. place_or (slice_get l (suc number)) (length code.ops)) c.doors ∙ (ap (place_or (slice_get (doors_from p 0 0 (entries_of p)) (suc number))) (sym total) ∙ x.next-is)) in
+    let next : end_of code number ≡ x.at + length (body ++ op.Done ∷ []) =
+    ap (λ k. place_or (slice_get code.doors k) (length code.ops)) ends
+    ∙ (ap (λ l. place_or (slice_get l (suc number)) (length code.ops)) c.doors
+    ∙ (ap (place_or (slice_get (doors_from p 0 0 (entries_of p)) (suc number))) (sym total) ∙ x.next-is)) in
     let made : HandledAt p code number door x.at = record {
       entry = x.entry;
       rest = x.rest;

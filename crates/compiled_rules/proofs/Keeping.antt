@@ -30,4 +30,6 @@ module _ (p : Protocol) (code : Code) (a : IsAccepted p) (c : IsCode p code) whe
   unbroken at Sets b = keeps_sets p code a c at b
 
   pub keeps : KeepsRules code p
-  keeps at rule b = unbroken at rule (subst (λ s. MatchBool s (Breaks code p at rule) ((at ≡ length code.ops) × (rule ≡ Ranges))) (structured p code a c) b)
+  keeps at rule b =
+      unbroken at rule (subst (λ s. MatchBool s (Breaks code p at rule) ((at ≡ length code.ops) × (rule ≡ Ranges)))
+      (structured p code a c) b)

@@ -1,5 +1,6 @@
 -- Compiled code names what there is, its jumps go forward, and its loops nest.
-use Rattle.std.proofs.Common.{◌≡◌, ℕ, ◌+◌, ◌<◌, ◌≤◌, ◌⊎◌, Bool, true, false, List, length, Option, Some, None, refl, sym, subst, arith, inl, inr}
+use Rattle.std.proofs.Common.{◌≡◌, ℕ, ◌+◌, ◌<◌, ◌≤◌, ◌⊎◌, Bool, true, false, List, length, Option, Some, None, refl, sym, subst}
+use Rattle.std.proofs.Common.{arith, inl, inr}
 use Rattle.std.specs.Prelude.{cond, codes, is_some, nat_lt, not, position}
 use Rattle.std.specs.List.{prefix_len}
 use Rattle.std.specs.Str.{bytes_eq}
@@ -12,7 +13,8 @@ use Rattle.teapot_tree.specs.declared.expr.Expr.TheOpen.{Expr-F}
 use Rattle.teapot_tree.specs.declared.protocol.Handler.{Handler}
 use Rattle.teapot_tree.specs.declared.protocol.Protocol.{Protocol}
 use Rattle.teapot_tree.specs.declared.protocol.State.{State}
-use Rattle.teapot_tree.specs.Bodies.{Simple, assign, send, send_all, set_tag, set_state, suspend, resume, install, enqueue, wake_up, error}
+use Rattle.teapot_tree.specs.Bodies.{Simple, assign, send, send_all, set_tag, set_state, suspend, resume, install, enqueue}
+use Rattle.teapot_tree.specs.Bodies.{wake_up, error}
 use Rattle.teapot_tree.specs.Paths.{does}
 use Rattle.teapot_tree.specs.Scopes.{message_number, message_of, state_number, state_of}
 use Rattle.teapot_meaning.specs.Fits.{names_in}
@@ -36,7 +38,8 @@ place_below f xs k e = by_test (nat_lt n (length xs)) refl e
     n = prefix_len (λ y. not (f y)) xs
 
     by_test : (b : Bool) → nat_lt n (length xs) ≡ b → cond b (Some n) None ≡ Some k → k < length xs
-    by_test true h g = let same : n ≡ k = cc in let lt : n < length xs = (Decides-ltb n (length xs)).0 h in subst (λ z. z < length xs) same lt
+    by_test true h g = let same : n ≡ k = cc in let lt : n < length xs =
+        (Decides-ltb n (length xs)).0 h in subst (λ z. z < length xs) same lt
     by_test false h g = cc
 
 -- ---- ops that do not lead away and begin no loop
@@ -62,16 +65,19 @@ module _ (p : Protocol) (names : List Name) where
   by_some : (o o' : OpCode) → Some o ≡ Some o' → Plain o → Plain o'
   by_some o o' e x = let same : o ≡ o' = cc in subst Plain same x
 
-  get_plain : (i j : Option ℕ) → ((k : ℕ) → i ≡ Some k → k < length names) → ((k : ℕ) → j ≡ Some k → k < length p.infos) → Plain (get_op i j)
+  get_plain : (i j : Option ℕ) → ((k : ℕ) → i ≡ Some k → k < length names) → ((k : ℕ) → j ≡ Some k → k < length p.infos) →
+      Plain (get_op i j)
   get_plain (Some k) j f g = f k refl
   get_plain None (Some k) f g = g k refl
   get_plain None None f g = tt
 
   name_plain : (n : Name) → Plain (get_op (slot_of names n) (info_number p n))
   name_plain n =
-      get_plain (slot_of names n) (info_number p n) (λ k e. place_below (λ m. bytes_eq m n) names k e) (λ k e. place_below (λ i. bytes_eq i.name n) p.infos k e)
+      get_plain (slot_of names n) (info_number p n) (λ k e. place_below (λ m. bytes_eq m n) names k e)
+      (λ k e. place_below (λ i. bytes_eq i.name n) p.infos k e)
 
-  put_plain : (i j : Option ℕ) (o : OpCode) → ((k : ℕ) → i ≡ Some k → k < length names) → ((k : ℕ) → j ≡ Some k → k < length p.infos) → put_op i j ≡ Some o → Plain o
+  put_plain : (i j : Option ℕ) (o : OpCode) → ((k : ℕ) → i ≡ Some k → k < length names) →
+      ((k : ℕ) → j ≡ Some k → k < length p.infos) → put_op i j ≡ Some o → Plain o
   put_plain (Some k) j o f g e = by_some (op.Put k) o e (f k refl)
   put_plain None (Some k) o f g e = by_some (op.PutInfo k) o e (g k refl)
   put_plain None None o f g e = cc
@@ -96,15 +102,20 @@ module _ (p : Protocol) (names : List Name) where
 
     pub expr_plain : {at after : ℕ} {e : Expr} → Evaluates p names ops at e after → Over ops IsPlain at after
     expr_plain (follows.atom {at = at} {e = e} {o = o} d has) = over_one ops IsPlain at o has (atom_plain (out-Expr e) o d)
-    expr_plain (follows.single {at = at} {after = after} d x has) = over_joined ops IsPlain at after (after + 1) (expr_plain x) (over_one ops IsPlain after op.One has tt)
-    expr_plain (follows.negation {at = at} {after = after} d x has) = over_joined ops IsPlain at after (after + 1) (expr_plain x) (over_one ops IsPlain after op.Not has tt)
-    expr_plain (follows.counting {at = at} {after = after} d x has) = over_joined ops IsPlain at after (after + 1) (expr_plain x) (over_one ops IsPlain after op.Count has tt)
+    expr_plain (follows.single {at = at} {after = after} d x has) =
+        over_joined ops IsPlain at after (after + 1) (expr_plain x) (over_one ops IsPlain after op.One has tt)
+    expr_plain (follows.negation {at = at} {after = after} d x has) =
+        over_joined ops IsPlain at after (after + 1) (expr_plain x) (over_one ops IsPlain after op.Not has tt)
+    expr_plain (follows.counting {at = at} {after = after} d x has) =
+        over_joined ops IsPlain at after (after + 1) (expr_plain x) (over_one ops IsPlain after op.Count has tt)
     expr_plain (follows.pair {at = at} {middle = middle} {after = after} {o = o} d x y has) =
-        over_joined ops IsPlain at middle (after + 1) (expr_plain x) (over_joined ops IsPlain middle after (after + 1) (expr_plain y) (over_one ops IsPlain after (op.Two o) has tt))
+        over_joined ops IsPlain at middle (after + 1) (expr_plain x)
+        (over_joined ops IsPlain middle after (after + 1) (expr_plain y) (over_one ops IsPlain after (op.Two o) has tt))
 
     pub all_plain : {at after : ℕ} {es : List Expr} → EvaluatesAll p names ops at es after → Over ops IsPlain at after
     all_plain (follows.none {at = at}) = over_none ops IsPlain at
-    all_plain (follows.more {at = at} {middle = middle} {after = after} x xs) = over_joined ops IsPlain at middle after (expr_plain x) (all_plain xs)
+    all_plain (follows.more {at = at} {middle = middle} {after = after} x xs) =
+        over_joined ops IsPlain at middle after (expr_plain x) (all_plain xs)
 
 message_there : (p : Protocol) (n : Name) → is_some (message_of p n) ≡ true → declared (message_number p n) < length p.messages
 message_there p n e =
@@ -118,14 +129,17 @@ state_there p n e =
     let k = place_found (λ d. bytes_eq d.name n) p.states m.0 m.1 in
     subst (λ o. declared o < length p.states) (sym k.1) (slice_get_within p.states k.0 m.0 k.2)
 
-last_plain : (p : Protocol) (t : State) (h : Handler) (a : Simple) (o : OpCode) (r : ℕ) → Keeps (scope_of p t h) (does a) → last_op p (names_in t h) a r ≡ Some o → Plain p (names_in t h) o
+last_plain : (p : Protocol) (t : State) (h : Handler) (a : Simple) (o : OpCode) (r : ℕ) → Keeps (scope_of p t h) (does a) →
+    last_op p (names_in t h) a r ≡ Some o → Plain p (names_in t h) o
 last_plain p t h (assign n e) o r k f =
-    put_plain p (names_in t h) (slot_of (names_in t h) n) (info_number p n) o (λ i q. place_below (λ m. bytes_eq m n) (names_in t h) i q) (λ i q. place_below (λ d. bytes_eq d.name n) p.infos i q) f
+    put_plain p (names_in t h) (slot_of (names_in t h) n) (info_number p n) o
+    (λ i q. place_below (λ m. bytes_eq m n) (names_in t h) i q) (λ i q. place_below (λ d. bytes_eq d.name n) p.infos i q) f
 last_plain p t h (send e n xs) o r k f = by_some p (names_in t h) _ o f (message_there p n k.declared)
 last_plain p t h (send_all e n xs) o r k f = by_some p (names_in t h) _ o f (message_there p n k.declared)
 last_plain p t h (set_tag g) o r k f = by_some p (names_in t h) _ o f tt
 last_plain p t h (set_state n xs) o r k f = by_some p (names_in t h) _ o f (state_there p n k.declared)
-last_plain p t h (suspend l n xs q) o r k f = by_some p (names_in t h) _ o f (state_there p n (and_parts (is_some (state_of p n)) _ k.declared).0)
+last_plain p t h (suspend l n xs q) o r k f = by_some p (names_in t h) _ o f
+    (state_there p n (and_parts (is_some (state_of p n)) _ k.declared).0)
 last_plain p t h (resume n) o r k f = by_some p (names_in t h) _ o f tt
 last_plain p t h install o r k f = by_some p (names_in t h) _ o f tt
 last_plain p t h enqueue o r k f = by_some p (names_in t h) _ o f tt
@@ -196,11 +210,13 @@ module _ (p : Protocol) (names : List Name) (ops : List OpCode) where
     pub fits : Over ops (Fits lo hi k i) lo hi
     pub apart : (a b : ℕ) (x y : OpCode) → lo ≤ a → a < hi → lo ≤ b → b < hi → HasOp ops a x → HasOp ops b y → Apart a x b y
 
-  widen : (lo hi k i lo' hi' k' i' a : ℕ) (o : OpCode) → lo' ≤ lo → hi ≤ hi' → k' ≤ k → i ≤ i' → Fits lo hi k i a o → Fits lo' hi' k' i' a o
+  widen : (lo hi k i lo' hi' k' i' a : ℕ) (o : OpCode) → lo' ≤ lo → hi ≤ hi' → k' ≤ k → i ≤ i' → Fits lo hi k i a o →
+      Fits lo' hi' k' i' a o
   widen lo hi k i lo' hi' k' i' a (op.Put s) l u m n (inl e) = inl e
   widen lo hi k i lo' hi' k' i' a (op.Put s) l u m n (inr e) = let f = e.0 in let g = e.1 in inr (omega arith, omega arith)
   widen lo hi k i lo' hi' k' i' a (op.Jump to) l u m n e = let f = e.within in record { later = e.later; within = omega arith }
-  widen lo hi k i lo' hi' k' i' a (op.JumpIfNot to) l u m n e = let f = e.within in record { later = e.later; within = omega arith }
+  widen lo hi k i lo' hi' k' i' a (op.JumpIfNot to) l u m n e = let f =
+      e.within in record { later = e.later; within = omega arith }
   widen lo hi k i lo' hi' k' i' a (op.JumpBack to) l u m n e =
       let f = e.within in record { within = omega arith; earlier = e.earlier; variable = e.variable; set = e.set; loop = e.loop }
   widen lo hi k i lo' hi' k' i' a (op.EachNext s h to) l u m n e =
@@ -224,7 +240,8 @@ module _ (p : Protocol) (names : List Name) (ops : List OpCode) where
       }
   widen lo hi k i lo' hi' k' i' a _ l u m n e = e
 
-  pub fits_wider : (lo hi k i lo' hi' k' i' from upto : ℕ) → lo' ≤ lo → hi ≤ hi' → k' ≤ k → i ≤ i' → Over ops (Fits lo hi k i) from upto → Over ops (Fits lo' hi' k' i') from upto
+  pub fits_wider : (lo hi k i lo' hi' k' i' from upto : ℕ) → lo' ≤ lo → hi ≤ hi' → k' ≤ k → i ≤ i' →
+      Over ops (Fits lo hi k i) from upto → Over ops (Fits lo' hi' k' i') from upto
   fits_wider lo hi k i lo' hi' k' i' from upto l u m n f a o b c has = widen lo hi k i lo' hi' k' i' a o l u m n (f a o b c has)
 
   -- ---- plain code
@@ -252,35 +269,45 @@ module _ (p : Protocol) (names : List Name) (ops : List OpCode) where
 
   -- ---- one piece behind another
 
-  loop_behind : (lo mid hi k i j a b s h to : ℕ) (x : OpCode) → length names ≤ k → k ≤ i → a < mid → Fits lo mid k i a x → Whole mid hi i j b s h to → Outside a x b h to
-  loop_behind lo mid hi k i j a b s h to (op.Jump y) few g lt f w = let begins = w.begins in let within = f.within in λ l u. absurd (omega arith)
-  loop_behind lo mid hi k i j a b s h to (op.JumpIfNot y) few g lt f w = let begins = w.begins in let within = f.within in λ l u. absurd (omega arith)
+  loop_behind : (lo mid hi k i j a b s h to : ℕ) (x : OpCode) → length names ≤ k → k ≤ i → a < mid → Fits lo mid k i a x →
+      Whole mid hi i j b s h to → Outside a x b h to
+  loop_behind lo mid hi k i j a b s h to (op.Jump y) few g lt f w = let begins = w.begins in let within =
+      f.within in λ l u. absurd (omega arith)
+  loop_behind lo mid hi k i j a b s h to (op.JumpIfNot y) few g lt f w = let begins = w.begins in let within =
+      f.within in λ l u. absurd (omega arith)
   loop_behind lo mid hi k i j a b s h to (op.EachNext z y q) few g lt f w =
       let begins = w.begins in
       let from = w.set_from in
       let upto = f.set_to in
       (λ l u. absurd (omega arith), λ e. absurd (omega arith))
   loop_behind lo mid hi k i j a b s h to (op.Put y) few g lt (inl f) w = let from = w.set_from in λ e. absurd (omega arith)
-  loop_behind lo mid hi k i j a b s h to (op.Put y) few g lt (inr f) w = let from = w.set_from in let upto = f.1 in λ e. absurd (omega arith)
+  loop_behind lo mid hi k i j a b s h to (op.Put y) few g lt (inr f) w = let from = w.set_from in let upto =
+      f.1 in λ e. absurd (omega arith)
   loop_behind lo mid hi k i j a b s h to _ few g lt f w = tt
 
-  loop_before : (lo mid hi k i j a b s h to : ℕ) (x : OpCode) → length names ≤ k → k ≤ i → mid ≤ a → Fits mid hi i j a x → Whole lo mid k i b s h to → Outside a x b h to
-  loop_before lo mid hi k i j a b s h to (op.Jump y) few g le f w = let within = w.within in let later = f.later in λ l u. absurd (omega arith)
-  loop_before lo mid hi k i j a b s h to (op.JumpIfNot y) few g le f w = let within = w.within in let later = f.later in λ l u. absurd (omega arith)
+  loop_before : (lo mid hi k i j a b s h to : ℕ) (x : OpCode) → length names ≤ k → k ≤ i → mid ≤ a → Fits mid hi i j a x →
+      Whole lo mid k i b s h to → Outside a x b h to
+  loop_before lo mid hi k i j a b s h to (op.Jump y) few g le f w = let within = w.within in let later =
+      f.later in λ l u. absurd (omega arith)
+  loop_before lo mid hi k i j a b s h to (op.JumpIfNot y) few g le f w = let within = w.within in let later =
+      f.later in λ l u. absurd (omega arith)
   loop_before lo mid hi k i j a b s h to (op.EachNext z y q) few g le f w =
       let within = w.within in
       let from = f.set_from in
       let upto = w.set_to in
       (λ l u. absurd (omega arith), λ e. absurd (omega arith))
   loop_before lo mid hi k i j a b s h to (op.Put y) few g le (inl f) w = let from = w.set_from in λ e. absurd (omega arith)
-  loop_before lo mid hi k i j a b s h to (op.Put y) few g le (inr f) w = let upto = w.set_to in let from = f.0 in λ e. absurd (omega arith)
+  loop_before lo mid hi k i j a b s h to (op.Put y) few g le (inr f) w = let upto = w.set_to in let from =
+      f.0 in λ e. absurd (omega arith)
   loop_before lo mid hi k i j a b s h to _ few g le f w = tt
 
-  apart_behind : (lo mid hi k i j a b : ℕ) (x y : OpCode) → length names ≤ k → k ≤ i → a < mid → Fits lo mid k i a x → Fits mid hi i j b y → Apart a x b y
+  apart_behind : (lo mid hi k i j a b : ℕ) (x y : OpCode) → length names ≤ k → k ≤ i → a < mid → Fits lo mid k i a x →
+      Fits mid hi i j b y → Apart a x b y
   apart_behind lo mid hi k i j a b x (op.EachNext s h to) few g lt f w = loop_behind lo mid hi k i j a b s h to x few g lt f w
   apart_behind lo mid hi k i j a b x _ few g lt f w = tt
 
-  apart_before : (lo mid hi k i j a b : ℕ) (x y : OpCode) → length names ≤ k → k ≤ i → mid ≤ a → Fits mid hi i j a x → Fits lo mid k i b y → Apart a x b y
+  apart_before : (lo mid hi k i j a b : ℕ) (x y : OpCode) → length names ≤ k → k ≤ i → mid ≤ a → Fits mid hi i j a x →
+      Fits lo mid k i b y → Apart a x b y
   apart_before lo mid hi k i j a b x (op.EachNext s h to) few g le f w = loop_before lo mid hi k i j a b s h to x few g le f w
   apart_before lo mid hi k i j a b x _ few g le f w = tt
 
@@ -293,14 +320,18 @@ module _ (p : Protocol) (names : List Name) (ops : List OpCode) where
       record {
         up = omega arith;
         grow = omega arith;
-        fits = over_joined ops (Fits lo hi k j) lo mid hi (fits_wider lo mid k i lo hi k j lo mid (omega arith) uy (omega arith) gy x.fits) (fits_wider mid hi i j lo hi k j mid hi ux (omega arith) gx (omega arith) y.fits);
+        fits = over_joined ops (Fits lo hi k j) lo mid hi (fits_wider lo mid k i lo hi k j lo mid (omega arith) uy
+            (omega arith) gy x.fits) (fits_wider mid hi i j lo hi k j mid hi ux (omega arith) gx (omega arith) y.fits);
         apart = λ a b m n la ua lb ub hm hn. by_side a b m n la ua lb ub hm hn (before_or a mid) (before_or b mid);
       }
     where
-      by_side : (a b : ℕ) (m n : OpCode) → lo ≤ a → a < hi → lo ≤ b → b < hi → HasOp ops a m → HasOp ops b n → (a < mid) ⊎ (mid ≤ a) → (b < mid) ⊎ (mid ≤ b) → Apart a m b n
+      by_side : (a b : ℕ) (m n : OpCode) → lo ≤ a → a < hi → lo ≤ b → b < hi → HasOp ops a m → HasOp ops b n →
+          (a < mid) ⊎ (mid ≤ a) → (b < mid) ⊎ (mid ≤ b) → Apart a m b n
       by_side a b m n la ua lb ub hm hn (inl e) (inl f) = x.apart a b m n la e lb f hm hn
-      by_side a b m n la ua lb ub hm hn (inl e) (inr f) = apart_behind lo mid hi k i j a b m n few x.grow e (x.fits a m la e hm) (y.fits b n f ub hn)
-      by_side a b m n la ua lb ub hm hn (inr e) (inl f) = apart_before lo mid hi k i j a b m n few x.grow e (y.fits a m e ua hm) (x.fits b n lb f hn)
+      by_side a b m n la ua lb ub hm hn (inl e) (inr f) = apart_behind lo mid hi k i j a b m n few x.grow e
+          (x.fits a m la e hm) (y.fits b n f ub hn)
+      by_side a b m n la ua lb ub hm hn (inr e) (inl f) = apart_before lo mid hi k i j a b m n few x.grow e
+          (y.fits a m e ua hm) (x.fits b n lb f hn)
       by_side a b m n la ua lb ub hm hn (inr e) (inr f) = y.apart a b m n e ua f ub hm hn
 
   -- ---- a jump before a piece
@@ -333,13 +364,16 @@ module _ (p : Protocol) (names : List Name) (ops : List OpCode) where
   from_forward a b x lo hi o (op.EachNext s h to) e f l u has = forward_out a b x h to o e (f b s h to l u has)
   from_forward a b x lo hi o _ e f l u has = tt
 
-  jump_neat : (lo hi k i x : ℕ) (o : OpCode) → HasOp ops lo o → Forward x o → lo < x → x ≤ hi → Free x (lo + 1) hi → Neat (lo + 1) hi k i → Neat lo hi k i
+  jump_neat : (lo hi k i x : ℕ) (o : OpCode) → HasOp ops lo o → Forward x o → lo < x → x ≤ hi → Free x (lo + 1) hi →
+      Neat (lo + 1) hi k i → Neat lo hi k i
   jump_neat lo hi k i x o has e l u free n =
       let up = n.up in
       record {
         up = omega arith;
         grow = n.grow;
-        fits = over_joined ops (Fits lo hi k i) lo (lo + 1) hi (over_one ops (Fits lo hi k i) lo o has (forward_fits lo hi k i lo x o e l u)) (fits_wider (lo + 1) hi k i lo hi k i (lo + 1) hi (omega arith) (omega arith) (omega arith) (omega arith) n.fits);
+        fits = over_joined ops (Fits lo hi k i) lo (lo + 1) hi
+            (over_one ops (Fits lo hi k i) lo o has (forward_fits lo hi k i lo x o e l u))
+            (fits_wider (lo + 1) hi k i lo hi k i (lo + 1) hi (omega arith) (omega arith) (omega arith) (omega arith) n.fits);
         apart = λ a b m y la ua lb ub hm hy. by_side a b m y la ua lb ub hm hy (before_or a (lo + 1)) (before_or b (lo + 1));
       }
     where
@@ -350,7 +384,8 @@ module _ (p : Protocol) (names : List Name) (ops : List OpCode) where
           let same : o ≡ m = cc in
           subst (Forward x) same e
 
-      by_side : (a b : ℕ) (m y : OpCode) → lo ≤ a → a < hi → lo ≤ b → b < hi → HasOp ops a m → HasOp ops b y → (a < lo + 1) ⊎ (lo + 1 ≤ a) → (b < lo + 1) ⊎ (lo + 1 ≤ b) → Apart a m b y
+      by_side : (a b : ℕ) (m y : OpCode) → lo ≤ a → a < hi → lo ≤ b → b < hi → HasOp ops a m → HasOp ops b y →
+          (a < lo + 1) ⊎ (lo + 1 ≤ a) → (b < lo + 1) ⊎ (lo + 1 ≤ b) → Apart a m b y
       by_side a b m y la ua lb ub hm hy s (inl g) = to_forward a b x m y (first b y lb g hy)
       by_side a b m y la ua lb ub hm hy (inl f) (inr g) = from_forward a b x (lo + 1) hi m y (first a m la f hm) free g ub hy
       by_side a b m y la ua lb ub hm hy (inr f) (inr g) = n.apart a b m y f ua g ub hm hy
@@ -358,12 +393,14 @@ module _ (p : Protocol) (names : List Name) (ops : List OpCode) where
   -- past the end of a piece
   free_past : (x lo hi k i : ℕ) → hi ≤ x → Neat lo hi k i → Free x lo hi
   unfolding Free
-  free_past x lo hi k i le n b s h to l u has from upto = let w = n.fits b (op.EachNext s h to) l u has in let within = w.within in absurd (omega arith)
+  free_past x lo hi k i le n b s h to l u has from upto = let w = n.fits b (op.EachNext s h to) l u has in let within =
+      w.within in absurd (omega arith)
 
   -- at its beginning
   free_first : (x lo hi k i : ℕ) → x ≤ lo → Neat lo hi k i → Free x lo hi
   unfolding Free
-  free_first x lo hi k i le n b s h to l u has from upto = let w = n.fits b (op.EachNext s h to) l u has in let begins = w.begins in absurd (omega arith)
+  free_first x lo hi k i le n b s h to l u has from upto = let w = n.fits b (op.EachNext s h to) l u has in let begins =
+      w.begins in absurd (omega arith)
 
   free_jump : (x at y : ℕ) → HasOp ops at (op.Jump y) → Free x at (at + 1)
   unfolding Free
@@ -414,12 +451,23 @@ module _ (p : Protocol) (names : List Name) (ops : List OpCode) where
         follows = refl;
         filled = r.put;
       } in
-      let f3 : Back after end (after + 1) = record { within = omega arith; earlier = omega arith; variable = s; set = k; loop = r.next } in
-      let inside = fits_wider (after + 1 + 1) end (k + 1) i after (end + 1) k i (after + 1 + 1) end (omega arith) (omega arith) (omega arith) (omega arith) body.fits in
-      over_joined ops P after (after + 1) (end + 1) (over_one ops P after (op.Put k) r.put f1) (over_joined ops P (after + 1) (after + 1 + 1) (end + 1) (over_one ops P (after + 1) (op.EachNext s k (end + 1)) r.next f2) (over_joined ops P (after + 1 + 1) end (end + 1) inside (over_one ops P end (op.JumpBack (after + 1)) r.back f3)))
+      let f3 : Back after end (after + 1) = record {
+        within = omega arith;
+        earlier = omega arith;
+        variable = s;
+        set = k;
+        loop = r.next;
+      } in
+      let inside = fits_wider (after + 1 + 1) end (k + 1) i after (end + 1) k i (after + 1 + 1) end (omega arith) (omega arith)
+      (omega arith) (omega arith) body.fits in
+      over_joined ops P after (after + 1) (end + 1) (over_one ops P after (op.Put k) r.put f1)
+      (over_joined ops P (after + 1) (after + 1 + 1) (end + 1)
+      (over_one ops P (after + 1) (op.EachNext s k (end + 1)) r.next f2)
+      (over_joined ops P (after + 1 + 1) end (end + 1) inside (over_one ops P end (op.JumpBack (after + 1)) r.back f3)))
 
   -- the loop itself, and what is in its body
-  in_body : (after end k i a : ℕ) (x : OpCode) → length names ≤ k → after + 1 + 1 ≤ a → a < end → Fits (after + 1 + 1) end (k + 1) i a x → Outside a x (after + 1) k (end + 1)
+  in_body : (after end k i a : ℕ) (x : OpCode) → length names ≤ k → after + 1 + 1 ≤ a → a < end →
+      Fits (after + 1 + 1) end (k + 1) i a x → Outside a x (after + 1) k (end + 1)
   in_body after end k i a (op.Jump y) few l u f = λ m n. (omega arith, omega arith)
   in_body after end k i a (op.JumpIfNot y) few l u f = λ m n. (omega arith, omega arith)
   in_body after end k i a (op.EachNext z y q) few l u f =
@@ -432,7 +480,8 @@ module _ (p : Protocol) (names : List Name) (ops : List OpCode) where
     of_loop : (a : ℕ) (x : OpCode) → after ≤ a → a < end + 1 → HasOp ops a x → Outside a x (after + 1) k (end + 1)
     of_loop a x l u has = by_place (before_or a (after + 1)) (before_or a (after + 1 + 1)) (before_or a end)
       where
-        by_place : (a < after + 1) ⊎ (after + 1 ≤ a) → (a < after + 1 + 1) ⊎ (after + 1 + 1 ≤ a) → (a < end) ⊎ (end ≤ a) → Outside a x (after + 1) k (end + 1)
+        by_place : (a < after + 1) ⊎ (after + 1 ≤ a) → (a < after + 1 + 1) ⊎ (after + 1 + 1 ≤ a) → (a < end) ⊎ (end ≤ a) →
+            Outside a x (after + 1) k (end + 1)
         by_place (inl e) m n =
             let is : after ≡ a = omega arith in
             let f : Outside a (op.Put k) (after + 1) k (end + 1) = λ q. omega arith in
@@ -446,13 +495,15 @@ module _ (p : Protocol) (names : List Name) (ops : List OpCode) where
             let is : end ≡ a = omega arith in
             subst (λ z. Outside a z (after + 1) k (end + 1)) (same_op end a (op.JumpBack (after + 1)) x is r.back has) tt
 
-    of_inner : (a b z h to : ℕ) (x : OpCode) → after ≤ a → a < end + 1 → after + 1 + 1 ≤ b → b < end → HasOp ops a x → HasOp ops b (op.EachNext z h to) → Outside a x b h to
+    of_inner : (a b z h to : ℕ) (x : OpCode) → after ≤ a → a < end + 1 → after + 1 + 1 ≤ b → b < end → HasOp ops a x →
+        HasOp ops b (op.EachNext z h to) → Outside a x b h to
     of_inner a b z h to x l u lb ub has hb = by_place (before_or a (after + 1)) (before_or a (after + 1 + 1)) (before_or a end)
       where
         w : Whole (after + 1 + 1) end (k + 1) i b z h to
         w = let body = r.body in body.fits b (op.EachNext z h to) lb ub hb
 
-        by_place : (a < after + 1) ⊎ (after + 1 ≤ a) → (a < after + 1 + 1) ⊎ (after + 1 + 1 ≤ a) → (a < end) ⊎ (end ≤ a) → Outside a x b h to
+        by_place : (a < after + 1) ⊎ (after + 1 ≤ a) → (a < after + 1 + 1) ⊎ (after + 1 + 1 ≤ a) → (a < end) ⊎ (end ≤ a) →
+            Outside a x b h to
         by_place (inl e) m n =
             let is : after ≡ a = omega arith in
             let from : k + 1 ≤ h = w.set_from in
@@ -468,14 +519,17 @@ module _ (p : Protocol) (names : List Name) (ops : List OpCode) where
             let is : end ≡ a = omega arith in
             subst (λ y. Outside a y b h to) (same_op end a (op.JumpBack (after + 1)) x is r.back has) tt
 
-    inner_apart : (a b : ℕ) (x y : OpCode) → after ≤ a → a < end + 1 → after + 1 + 1 ≤ b → b < end → HasOp ops a x → HasOp ops b y → Apart a x b y
+    inner_apart : (a b : ℕ) (x y : OpCode) → after ≤ a → a < end + 1 → after + 1 + 1 ≤ b → b < end → HasOp ops a x →
+        HasOp ops b y → Apart a x b y
     inner_apart a b x (op.EachNext z h to) l u lb ub has hb = of_inner a b z h to x l u lb ub has hb
     inner_apart a b x _ l u lb ub has hb = tt
 
-    round_apart : (a b : ℕ) (x y : OpCode) → after ≤ a → a < end + 1 → after ≤ b → b < end + 1 → HasOp ops a x → HasOp ops b y → Apart a x b y
+    round_apart : (a b : ℕ) (x y : OpCode) → after ≤ a → a < end + 1 → after ≤ b → b < end + 1 → HasOp ops a x →
+        HasOp ops b y → Apart a x b y
     round_apart a b x y l u lb ub has hb = by_place (before_or b (after + 1)) (before_or b (after + 1 + 1)) (before_or b end)
       where
-        by_place : (b < after + 1) ⊎ (after + 1 ≤ b) → (b < after + 1 + 1) ⊎ (after + 1 + 1 ≤ b) → (b < end) ⊎ (end ≤ b) → Apart a x b y
+        by_place : (b < after + 1) ⊎ (after + 1 ≤ b) → (b < after + 1 + 1) ⊎ (after + 1 + 1 ≤ b) → (b < end) ⊎ (end ≤ b) →
+            Apart a x b y
         by_place (inl e) m n =
             let is : after ≡ b = omega arith in
             subst (λ z. Apart a x b z) (same_op after b (op.Put k) y is r.put hb) tt
@@ -505,7 +559,8 @@ module _ (p : Protocol) (t : State) (h : Handler) (ops : List OpCode) where
   IsNeat lo hi k i = length names ≤ k → Neat p names ops lo hi k i
 
   of_expr : (at after k : ℕ) (e : Expr) → Evaluates p names ops at e after → Neat p names ops at after k k
-  of_expr at after k e x = let up = rises p names ops x in plain_neat p names ops at after k (omega arith) (expr_plain p names ops x)
+  of_expr at after k e x = let up = rises p names ops x in plain_neat p names ops at after k (omega arith)
+      (expr_plain p names ops x)
 
   pub neat : Closed p t h ops IsNeat
   neat = record {
@@ -517,11 +572,14 @@ module _ (p : Protocol) (t : State) (h : Handler) (ops : List OpCode) where
     simple = λ a o at last r k keeps shallow lasted ev has few.
         let up = all_rise p names ops ev in
         let P : ℕ → OpCode → Type 0 = λ a o. Plain p names o in
-        plain_neat p names ops at (last + 1) k (omega arith) (over_joined ops P at last (last + 1) (all_plain p names ops ev) (over_one ops P last o has (last_plain p t h a o r keeps lasted)));
+        plain_neat p names ops at (last + 1) k (omega arith)
+        (over_joined ops P at last (last + 1) (all_plain p names ops ev)
+        (over_one ops P last o has (last_plain p t h a o r keeps lasted)));
     tested = λ e at after to k i keeps shallow ev has x few.
         let n = x few in
         let up = n.up in
-        let j = jump_neat p names ops after to k i to (op.JumpIfNot to) has refl (omega arith) (omega arith) (free_past p names ops to (after + 1) to k i (omega arith) n) n in
+        let j = jump_neat p names ops after to k i to (op.JumpIfNot to) has refl (omega arith) (omega arith)
+        (free_past p names ops to (after + 1) to k i (omega arith) n) n in
         joined_neat p names ops at after to k k i few (of_expr at after k e ev) j;
     branched = λ e at after mid to k i j keeps shallow ev has x jump y few.
         let a = x few in
@@ -529,14 +587,19 @@ module _ (p : Protocol) (t : State) (h : Handler) (ops : List OpCode) where
         let ga = a.grow in
         let b = y (omega arith) in
         let ub = b.up in
-        let after_jump = jump_neat p names ops mid to i j to (op.Jump to) jump refl (omega arith) (omega arith) (free_past p names ops to (mid + 1) to i j (omega arith) b) b in
+        let after_jump = jump_neat p names ops mid to i j to (op.Jump to) jump refl (omega arith) (omega arith)
+        (free_past p names ops to (mid + 1) to i j (omega arith) b) b in
         let both = joined_neat p names ops (after + 1) mid to k i j few a after_jump in
-        let free_b = free_joined p names ops (mid + 1) mid (mid + 1) to (free_jump p names ops (mid + 1) mid to jump) (free_first p names ops (mid + 1) (mid + 1) to i j (omega arith) b) in
-        let free = free_joined p names ops (mid + 1) (after + 1) mid to (free_past p names ops (mid + 1) (after + 1) mid k i (omega arith) a) free_b in
-        let all = jump_neat p names ops after to k j (mid + 1) (op.JumpIfNot (mid + 1)) has refl (omega arith) (omega arith) free both in
+        let free_b = free_joined p names ops (mid + 1) mid (mid + 1) to (free_jump p names ops (mid + 1) mid to jump)
+        (free_first p names ops (mid + 1) (mid + 1) to i j (omega arith) b) in
+        let free = free_joined p names ops (mid + 1) (after + 1) mid to
+        (free_past p names ops (mid + 1) (after + 1) mid k i (omega arith) a) free_b in
+        let all = jump_neat p names ops after to k j (mid + 1) (op.JumpIfNot (mid + 1)) has refl (omega arith)
+        (omega arith) free both in
         joined_neat p names ops at after to k k j few (of_expr at after k e ev) all;
     looped = λ v e s at after end k i keeps shallow slot ev put next x back few.
         let there = place_below (λ m. bytes_eq m v) names s slot in
-        let all = round_neat p names ops after end s k i few (record { slot = there; put = put; next = next; body = x (omega arith); back = back }) in
+        let all = round_neat p names ops after end s k i few
+        (record { slot = there; put = put; next = next; body = x (omega arith); back = back }) in
         joined_neat p names ops at after (end + 1) k k i few (of_expr at after k e ev) all;
   }

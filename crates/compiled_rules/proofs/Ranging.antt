@@ -19,7 +19,8 @@ use Rattle.compiled_rules.proofs.Neat.{Fits}
 use Rattle.compiled_rules.proofs.Spans.{lt_true}
 
 module _ (p : Protocol) (code : Code) (a : IsAccepted p) (c : IsCode p code) where
-  fits_range : (names : _) (lo hi slots at : ℕ) (o : OpCode) → hi < length code.ops → length names ≤ slots → HasOp code.ops at o → at < hi → Fits p names code.ops lo hi (length names) slots at o → is_in_range p code slots o ≡ true
+  fits_range : (names : _) (lo hi slots at : ℕ) (o : OpCode) → hi < length code.ops → length names ≤ slots →
+      HasOp code.ops at o → at < hi → Fits p names code.ops lo hi (length names) slots at o → is_in_range p code slots o ≡ true
   fits_range names lo hi slots at (op.Get s) u n has lt f = lt_true s slots (omega arith)
   fits_range names lo hi slots at (op.GetInfo s) u n has lt f = lt_true s (length p.infos) f
   fits_range names lo hi slots at (op.Put s) u n has lt (inl f) = lt_true s slots (omega arith)
@@ -48,7 +49,10 @@ module _ (p : Protocol) (code : Code) (a : IsAccepted p) (c : IsCode p code) whe
       let neat = is_neat p code a c w.number w.door x in
       let grow = neat.grow in
       let u = fin_there p code a c w.number w.door x in
-      let ok : is_in_range p code w.door.slots (op_at code at) ≡ true = each_op p code a c w.number w.door x (λ o. is_in_range p code w.door.slots o ≡ true) at i.from i.before (λ e. refl) (λ lt has. fits_range (names_of x.entry) w.door.at x.fin w.door.slots at (op_at code at) u grow has lt (neat.fits at (op_at code at) i.from lt has)) in
+      let ok : is_in_range p code w.door.slots (op_at code at) ≡ true =
+      each_op p code a c w.number w.door x (λ o. is_in_range p code w.door.slots o ≡ true) at i.from i.before (λ e. refl)
+      (λ lt has. fits_range (names_of x.entry) w.door.at x.fin w.door.slots at (op_at code at) u grow has lt
+      (neat.fits at (op_at code at) i.from lt has)) in
       let bad : is_in_range p code w.door.slots (op_at code at) ≡ false = not_false _ i.holds in
       cc
 
@@ -60,5 +64,6 @@ module _ (p : Protocol) (code : Code) (a : IsAccepted p) (c : IsCode p code) whe
       let end = x.end in
       let is = eqb-true (at + 1) _ parts.0 in
       let bad : is_done (op_at code at) ≡ false = not_false _ parts.1 in
-      let ok : is_done (op_at code at) ≡ true = each_op p code a c w.number w.door x (λ o. is_done o ≡ true) at i.from i.before (λ e. refl) (λ lt has. absurd (omega arith)) in
+      let ok : is_done (op_at code at) ≡ true = each_op p code a c w.number w.door x (λ o. is_done o ≡ true) at i.from i.before
+      (λ e. refl) (λ lt has. absurd (omega arith)) in
       cc

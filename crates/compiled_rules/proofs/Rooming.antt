@@ -34,7 +34,8 @@ module _ (p : Protocol) (code : Code) (a : IsAccepted p) (c : IsCode p code) whe
     where
       by_message : (o : Option MessageDecl) → message_of p n ≡ o → length (args_of o) ≤ 4
       by_message None e = omega arith
-      by_message (Some m) e = each_at (λ (q : MessageDecl). length q.args ≤ 4) p.messages m (find_has (λ d. bytes_eq d.name n) p.messages m e) a.tree.few_message_args
+      by_message (Some m) e = each_at (λ (q : MessageDecl). length q.args ≤ 4) p.messages m
+          (find_has (λ d. bytes_eq d.name n) p.messages m e) a.tree.few_message_args
   args_few on.Default = omega arith
 
   pub slots_few : (k : ℕ) (door : Door) → slice_get code.doors k ≡ Some door → door.slots ≤ 21
@@ -47,8 +48,10 @@ module _ (p : Protocol) (code : Code) (a : IsAccepted p) (c : IsCode p code) whe
       let count = slots_counted p code a c k door y in
       let args : length h.args ≤ 4 = omega (arith, few p a t i h j, args_few h.on) in
       let params : length t.params ≤ 4 = each_at (λ (s : State). length s.params ≤ 4) p.states t i a.tree.few_params in
-      let locals : length h.locals ≤ 8 = each_at (λ (q : Handler). length q.locals ≤ 8) t.handlers h j (each_flat _ (λ (s : State). s.handlers) p.states t i a.tree.few_locals) in
-      let turns : loops (body_of h.body) ≤ 4 = each_at (λ (q : Handler). loops (body_of q.body) ≤ 4) t.handlers h j (each_flat _ (λ (s : State). s.handlers) p.states t i a.tree.few_loops) in
+      let locals : length h.locals ≤ 8 = each_at (λ (q : Handler). length q.locals ≤ 8) t.handlers h j
+      (each_flat _ (λ (s : State). s.handlers) p.states t i a.tree.few_locals) in
+      let turns : loops (body_of h.body) ≤ 4 = each_at (λ (q : Handler). loops (body_of q.body) ≤ 4) t.handlers h j
+      (each_flat _ (λ (s : State). s.handlers) p.states t i a.tree.few_loops) in
       omega (
         arith,
         length-append (map (λ (q : Param). q.name) t.params) (h.args ++ map (λ (q : Param). q.name) h.locals),

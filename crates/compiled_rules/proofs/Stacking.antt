@@ -19,7 +19,8 @@ module _ (p : Protocol) (code : Code) (a : IsAccepted p) (c : IsCode p code) whe
   abbrev pub before : ℕ → ℕ → ℕ
   before from at = depth_at p code from (at - from)
 
-  pub one_on : (from at : ℕ) (o : OpCode) → from ≤ at → HasOp code.ops at o → before from (at + 1) ≡ depth_after p o (before from at)
+  pub one_on : (from at : ℕ) (o : OpCode) → from ≤ at → HasOp code.ops at o →
+      before from (at + 1) ≡ depth_after p o (before from at)
   one_on from at o l has =
       let next : at + 1 - from ≡ suc (at - from) = omega arith in
       let place : from + (at - from) ≡ at = omega arith in
@@ -31,7 +32,9 @@ module _ (p : Protocol) (code : Code) (a : IsAccepted p) (c : IsCode p code) whe
 
   module _ (number : ℕ) (door : _) (x : Handled p code number door) where
     pub clears : Clears p a.tree x.entry.state x.entry.handler code.ops door.at (before door.at) (one_on door.at) door.at x.fin
-    clears = holds p code a c number door x _ (serves p a.tree x.entry.state x.entry.handler code.ops door.at (before door.at) (one_on door.at)) (omega arith) (first_on door.at)
+    clears =
+        holds p code a c number door x _ (serves p a.tree x.entry.state x.entry.handler code.ops door.at (before door.at)
+        (one_on door.at)) (omega arith) (first_on door.at)
 
     -- an op is served, and leads to where there are no values
     pub record IsWell (at : ℕ) (o : OpCode) : Type 0 where
@@ -42,7 +45,8 @@ module _ (p : Protocol) (code : Code) (a : IsAccepted p) (c : IsCode p code) whe
     is_well at l u =
         let all = clears in
         each_op p code a c number door x (IsWell at) at l u
-        (λ e. let none : before door.at at ≡ 0 = ap (before door.at) e ∙ all.clear in record { served = ap (is_served p op.Done) none; leads = λ to f. absurd (cc) })
+        (λ e. let none : before door.at at ≡ 0 = ap (before door.at) e
+        ∙ all.clear in record { served = ap (is_served p op.Done) none; leads = λ to f. absurd (cc) })
         (λ lt has. let y = all.over at (op_at code at) l lt has in record { served = y.served; leads = y.leads })
 
     stack_kept : (at : ℕ) → door.at ≤ at → at < end_of code number → BreaksStack p code (part_of code number door) at → ⊥
@@ -58,4 +62,5 @@ module _ (p : Protocol) (code : Code) (a : IsAccepted p) (c : IsCode p code) whe
         omega arith
 
   pub keeps_stack : (at : ℕ) → AtOp code (BreaksStack p code) at → ⊥
-  keeps_stack at w = let i = w.within in stack_kept w.number w.door (handled p code c w.number w.door w.is_door) at i.from i.before i.holds
+  keeps_stack at w = let i = w.within in stack_kept w.number w.door
+      (handled p code c w.number w.door w.is_door) at i.from i.before i.holds

@@ -1,5 +1,6 @@
 -- Doors and rests of compiled code fit it.
-use Rattle.std.proofs.Common.{◌≡◌, ◌∙◌, ℕ, zero, suc, ◌+◌, ◌<◌, ◌≤◌, Bool, true, List, [], ◌∷◌, ◌++◌, length, length-append, Some, refl, ap, subst, arith}
+use Rattle.std.proofs.Common.{◌≡◌, ◌∙◌, ℕ, zero, suc, ◌+◌, ◌<◌, ◌≤◌, Bool, true, List, [], ◌∷◌, ◌++◌, length, length-append}
+use Rattle.std.proofs.Common.{Some, refl, ap, subst, arith}
 use Rattle.std.specs.Prelude.{find, get_or, slice_get, Contains}
 use Rattle.std.specs.List.{list_all}
 use Rattle.std.proofs.lemmas.Bool.{eq-eqb}
@@ -25,7 +26,8 @@ use Rattle.compiled_rules.proofs.Looping.{has_loops}
 use Rattle.compiled_rules.proofs.Resting.{is_rest_here}
 use Rattle.compiled_rules.proofs.Spans.{le_true, lt_true}
 
-all_get : {X : Type 0} (f : X → Bool) (xs : List X) → ((i : ℕ) (x : X) → slice_get xs i ≡ Some x → f x ≡ true) → list_all f xs ≡ true
+all_get : {X : Type 0} (f : X → Bool) (xs : List X) → ((i : ℕ) (x : X) → slice_get xs i ≡ Some x → f x ≡ true) →
+    list_all f xs ≡ true
 all_get f [] g = refl
 all_get f (x ∷ xs) g = both _ _ (g 0 x refl) (all_get f xs (λ i y e. g (suc i) y e))
 
@@ -38,7 +40,8 @@ rises p [] least at r l = refl
 rises p (d ∷ entries) least at r l =
     let body = body_code p d at r in
     let c = body ++ op.Done ∷ [] in
-    both _ _ (le_true least at l) (rises p entries (at + 1) (at + length c) (r + rests_in c) (omega (arith, length-append body (op.Done ∷ []))))
+    both _ _ (le_true least at l) (rises p entries (at + 1) (at + length c) (r + rests_in c)
+    (omega (arith, length-append body (op.Done ∷ []))))
 
 -- a member, by its place
 place_of : {X : Type 0} (xs : List X) (x : X) → Contains xs x → (i : ℕ) × (slice_get xs i ≡ Some x)
@@ -62,28 +65,36 @@ module _ (p : Protocol) (code : Code) (a : IsAccepted p) (c : IsCode p code) whe
         let state : slice_get p.states door.state ≡ Some x.entry.state = ap (slice_get p.states) x.state ∙ o.is_state in
         let kind : door.on ≡ kind_of p handler.on = ap (λ (d : Door). d.on) x.on in
         let at = place_of x.entry.state.handlers handler j in
-        let found = found_once p x.entry.state.handlers handler at.0 (once p a x.entry.state i) (all_declared p a x.entry.state i) (is_declared p a x.entry.state handler i j) at.1 in
-        ap (λ s. find (λ h. same_kind (kind_of p h.on) door.on) (handlers_at s)) state ∙ (ap (λ k. find (λ h. same_kind (kind_of p h.on) k) x.entry.state.handlers) kind ∙ found)
+        let found = found_once p x.entry.state.handlers handler at.0 (once p a x.entry.state i)
+        (all_declared p a x.entry.state i) (is_declared p a x.entry.state handler i j) at.1 in
+        ap (λ s. find (λ h. same_kind (kind_of p h.on) door.on) (handlers_at s)) state
+        ∙ (ap (λ k. find (λ h. same_kind (kind_of p h.on) k) x.entry.state.handlers) kind ∙ found)
 
     pub slots_counted : door.slots ≡ slot_count x.entry.state handler
     slots_counted =
         let names = names_of x.entry in
         let many = has_loops p names (body_of handler.body) (no_each p code a c number door x) door.at x.rest (length names) in
-        let count : loops_in (body_code p x.entry door.at x.rest) ≡ loops (body_of handler.body) = subst (λ ss. loops_in (code_of p names ss door.at x.rest (length names)) ≡ loops (body_of handler.body)) (tree-body handler.body) many in
+        let count : loops_in (body_code p x.entry door.at x.rest) ≡ loops (body_of handler.body) =
+        subst (λ ss. loops_in (code_of p names ss door.at x.rest (length names)) ≡ loops (body_of handler.body))
+        (tree-body handler.body) many in
         slots_are p code a c number door x ∙ ap (λ n. length names + n) count
 
     door_well : is_door_of p (length code.ops) door ≡ true
     door_well =
         let o = x.of in
         let state : slice_get p.states door.state ≡ Some x.entry.state = ap (slice_get p.states) x.state ∙ o.is_state in
-        let slots : has_slots door.slots (slice_get p.states door.state) (handler_of p door) ≡ true = ap (λ s. has_slots door.slots s (handler_of p door)) state ∙ (ap (has_slots door.slots (Some x.entry.state)) handler_is ∙ eq-eqb door.slots (slot_count x.entry.state handler) slots_counted) in
+        let slots : has_slots door.slots (slice_get p.states door.state) (handler_of p door) ≡ true =
+        ap (λ s. has_slots door.slots s (handler_of p door)) state
+        ∙ (ap (has_slots door.slots (Some x.entry.state)) handler_is
+        ∙ eq-eqb door.slots (slot_count x.entry.state handler) slots_counted) in
         let last = fin_there p code a c number door x in
         let fin = x.fin-is in
         both _ _ slots (lt_true door.at (length code.ops) (omega arith))
 
   pub structured : is_structured p code ≡ true
   structured =
-      let first : begins code.doors (length code.ops) ≡ true = ap (λ d. begins d (length code.ops)) c.doors ∙ (ap (λ o. begins (doors_from p 0 0 (entries_of p)) (length o)) c.ops ∙ begins_well p (entries_of p)) in
+      let first : begins code.doors (length code.ops) ≡ true = ap (λ d. begins d (length code.ops)) c.doors
+      ∙ (ap (λ o. begins (doors_from p 0 0 (entries_of p)) (length o)) c.ops ∙ begins_well p (entries_of p)) in
       let rising : rises_from 0 code.doors ≡ true = ap (rises_from 0) c.doors ∙ rises p (entries_of p) 0 0 0 (omega arith) in
       let doors = all_get (is_door_of p (length code.ops)) code.doors (λ i d e. door_well i d (handled p code c i d e)) in
       let rests = all_get (is_rest_of code.doors (length code.ops)) code.rests (λ i r e. is_rest_here p code a c i r e) in

@@ -1,5 +1,6 @@
 -- Each op of an accepted protocol's code finds values of the types that it needs.
-use Rattle.std.proofs.Common.{◌≡◌, ◌∙◌, ℕ, ◌+◌, ◌≤◌, true, false, if◌then◌else◌, List, [], ◌∷◌, ◌++◌, length, Option, Some, None, refl, ap, sym, subst, arith}
+use Rattle.std.proofs.Common.{◌≡◌, ◌∙◌, ℕ, ◌+◌, ◌≤◌, true, false, if◌then◌else◌, List, [], ◌∷◌, ◌++◌, length, Option, Some}
+use Rattle.std.proofs.Common.{None, refl, ap, sym, subst, arith}
 use Rattle.std.specs.Prelude.{codes, drop, is_some, map}
 use Rattle.tw_base.specs.NodeSets.{empty}
 use Rattle.tw_base.specs.declared.name.Name.{Name}
@@ -24,9 +25,10 @@ use Rattle.teapot_meaning.proofs.Typed.{both_known, is_of_some, one_known, where
 use Rattle.handler_code.specs.declared.code.OpCode.{OpCode}
 use Rattle.handler_code.specs.declared.code.OpCode.TheVariants as op
 use Rattle.handler_code.specs.Live.{HasOp}
-use Rattle.code_walks.specs.Kinds.{gives, has_loop_slots, is_typed, needs, needs_two, pushed_on, put_on, top_type, type_at, types_after, without}
+use Rattle.code_walks.specs.Kinds.{gives, has_loop_slots, is_typed, needs, needs_two, pushed_on, put_on, top_type, types_after}
+use Rattle.code_walks.specs.Kinds.{without}
 use Rattle.code_walks.specs.Kinds as kinds
-use Rattle.compiled_meaning.specs.Follows.{Evaluates, EvaluatesAll, atom_op, get_op, put_op, slot_of}
+use Rattle.compiled_meaning.specs.Follows.{Evaluates, EvaluatesAll, atom_op, get_op, slot_of}
 use Rattle.compiled_meaning.specs.Follows as follows
 use Rattle.compiled_rules.proofs.Slotting.{SlotsFit}
 use Rattle.compiled_rules.proofs.Spans.{Over, over_joined, over_none, over_one, rises}
@@ -64,16 +66,20 @@ module _ (p : Protocol) (slots : List ValType) where
   loop_slots (op.EachNext k h to) u e = cc
   loop_slots _ u e = refl
 
-  gives_one : (o : OpCode) (ns rest : List ValType) (u : ValType) → needs p slots o (top_type (ns ++ rest)) ≡ ns → gives p slots o ≡ Some u → Gives o (ns ++ rest) u rest
+  gives_one : (o : OpCode) (ns rest : List ValType) (u : ValType) → needs p slots o (top_type (ns ++ rest)) ≡ ns →
+      gives p slots o ≡ Some u → Gives o (ns ++ rest) u rest
   gives_one o ns rest u e f = record {
     typed = both _ _ (ap (λ l. is_some (without (ns ++ rest) l)) e ∙ ap is_some (without_front ns rest)) (loop_slots o u f);
-    after = ap (λ l. put_on (gives p slots o) (drop (length l) (ns ++ rest))) e ∙ (ap (put_on (gives p slots o)) (drop_front ns rest) ∙ ap (λ g. put_on g rest) f);
+    after = ap (λ l. put_on (gives p slots o) (drop (length l) (ns ++ rest))) e
+        ∙ (ap (put_on (gives p slots o)) (drop_front ns rest) ∙ ap (λ g. put_on g rest) f);
   }
 
   -- an op that leaves none, and takes all
-  pub takes_all : (o : OpCode) (stack : List ValType) → needs p slots o (top_type stack) ≡ stack → has_loop_slots slots o ≡ true → is_typed p slots o stack ≡ true
+  pub takes_all : (o : OpCode) (stack : List ValType) → needs p slots o (top_type stack) ≡ stack →
+      has_loop_slots slots o ≡ true → is_typed p slots o stack ≡ true
   takes_all o stack e f =
-      both _ _ (ap (λ l. is_some (without stack l)) e ∙ ap is_some (ap (λ s. without s stack) (sym (append-nil stack)) ∙ without_front stack [])) f
+      both _ _ (ap (λ l. is_some (without stack l)) e ∙ ap is_some
+      (ap (λ s. without s stack) (sym (append-nil stack)) ∙ without_front stack [])) f
 
   pub after_none : (o : OpCode) (stack : List ValType) → gives p slots o ≡ None → types_after p slots o stack ≡ []
   after_none o stack e = ap (λ g. put_on g (drop (length (needs p slots o (top_type stack))) stack)) e
@@ -94,21 +100,34 @@ alike None b e = cc
 alike (Some t) b e = (t, refl, is_of_some t b e)
 
 two_types : (o : Op) (a b : Option ValType) (u : ValType) → type_of_two o a b ≡ Some u → TwoTypes o a b u
-two_types Add a b u e = let k = both_known ty.Int ty.Int ty.Int u a b e in record { left = ty.Int; right = ty.Int; first = k.0; second = k.1; needed = refl; given = k.2 }
-two_types Sub a b u e = let k = both_known ty.Int ty.Int ty.Int u a b e in record { left = ty.Int; right = ty.Int; first = k.0; second = k.1; needed = refl; given = k.2 }
-two_types Lt a b u e = let k = both_known ty.Int ty.Int ty.Bool u a b e in record { left = ty.Int; right = ty.Int; first = k.0; second = k.1; needed = refl; given = k.2 }
-two_types Le a b u e = let k = both_known ty.Int ty.Int ty.Bool u a b e in record { left = ty.Int; right = ty.Int; first = k.0; second = k.1; needed = refl; given = k.2 }
-two_types And a b u e = let k = both_known ty.Bool ty.Bool ty.Bool u a b e in record { left = ty.Bool; right = ty.Bool; first = k.0; second = k.1; needed = refl; given = k.2 }
-two_types Or a b u e = let k = both_known ty.Bool ty.Bool ty.Bool u a b e in record { left = ty.Bool; right = ty.Bool; first = k.0; second = k.1; needed = refl; given = k.2 }
-two_types Has a b u e = let k = both_known ty.Set ty.Node ty.Bool u a b e in record { left = ty.Set; right = ty.Node; first = k.0; second = k.1; needed = refl; given = k.2 }
-two_types With a b u e = let k = both_known ty.Set ty.Node ty.Set u a b e in record { left = ty.Set; right = ty.Node; first = k.0; second = k.1; needed = refl; given = k.2 }
-two_types Without a b u e = let k = both_known ty.Set ty.Node ty.Set u a b e in record { left = ty.Set; right = ty.Node; first = k.0; second = k.1; needed = refl; given = k.2 }
-two_types Eq a b u e = let w = where_known (are_alike a b) ty.Bool u e in let k = alike a b w.0 in record { left = k.0; right = k.0; first = k.1; second = k.2; needed = refl; given = w.1 }
-two_types Ne a b u e = let w = where_known (are_alike a b) ty.Bool u e in let k = alike a b w.0 in record { left = k.0; right = k.0; first = k.1; second = k.2; needed = refl; given = w.1 }
+two_types Add a b u e = let k = both_known ty.Int ty.Int ty.Int u a b e in record
+    { left = ty.Int; right = ty.Int; first = k.0; second = k.1; needed = refl; given = k.2 }
+two_types Sub a b u e = let k = both_known ty.Int ty.Int ty.Int u a b e in record
+    { left = ty.Int; right = ty.Int; first = k.0; second = k.1; needed = refl; given = k.2 }
+two_types Lt a b u e = let k = both_known ty.Int ty.Int ty.Bool u a b e in record
+    { left = ty.Int; right = ty.Int; first = k.0; second = k.1; needed = refl; given = k.2 }
+two_types Le a b u e = let k = both_known ty.Int ty.Int ty.Bool u a b e in record
+    { left = ty.Int; right = ty.Int; first = k.0; second = k.1; needed = refl; given = k.2 }
+two_types And a b u e = let k = both_known ty.Bool ty.Bool ty.Bool u a b e in record
+    { left = ty.Bool; right = ty.Bool; first = k.0; second = k.1; needed = refl; given = k.2 }
+two_types Or a b u e = let k = both_known ty.Bool ty.Bool ty.Bool u a b e in record
+    { left = ty.Bool; right = ty.Bool; first = k.0; second = k.1; needed = refl; given = k.2 }
+two_types Has a b u e = let k = both_known ty.Set ty.Node ty.Bool u a b e in record
+    { left = ty.Set; right = ty.Node; first = k.0; second = k.1; needed = refl; given = k.2 }
+two_types With a b u e = let k = both_known ty.Set ty.Node ty.Set u a b e in record
+    { left = ty.Set; right = ty.Node; first = k.0; second = k.1; needed = refl; given = k.2 }
+two_types Without a b u e = let k = both_known ty.Set ty.Node ty.Set u a b e in record
+    { left = ty.Set; right = ty.Node; first = k.0; second = k.1; needed = refl; given = k.2 }
+two_types Eq a b u e = let w = where_known (are_alike a b) ty.Bool u e in let k =
+    alike a b w.0 in record { left = k.0; right = k.0; first = k.1; second = k.2; needed = refl; given = w.1 }
+two_types Ne a b u e = let w = where_known (are_alike a b) ty.Bool u e in let k =
+    alike a b w.0 in record { left = k.0; right = k.0; first = k.1; second = k.2; needed = refl; given = w.1 }
 
-type-is : (vs : List Variable) (e : Expr) (l : Expr-F Expr) → out-Expr e ≡ l → type_of vs e ≡ type_step vs (map-Expr Expr (Option ValType) (type_of vs) l)
+type-is : (vs : List Variable) (e : Expr) (l : Expr-F Expr) → out-Expr e ≡ l →
+    type_of vs e ≡ type_step vs (map-Expr Expr (Option ValType) (type_of vs) l)
 unfolding type_of
-type-is vs e l d = fold_out-Expr (Option ValType) (type_step vs) e ∙ ap (λ x. type_step vs (map-Expr Expr (Option ValType) (type_of vs) x)) d
+type-is vs e l d = fold_out-Expr (Option ValType) (type_step vs) e
+    ∙ ap (λ x. type_step vs (map-Expr Expr (Option ValType) (type_of vs) x)) d
 
 -- ---- expressions, where T says which types there are before each place
 
@@ -129,23 +148,28 @@ module _ (p : Protocol) (t : State) (h : Handler) (slots : List ValType) (width 
   get_needs None None top = refl
 
   by_some : (o q : OpCode) (u w : ValType) → Some o ≡ Some q → Some u ≡ Some w → Atom o u → Atom q w
-  by_some o q u w e f x = let same : o ≡ q = cc in let alike : u ≡ w = cc in subst (λ z. Atom z w) same (subst (λ z. Atom o z) alike x)
+  by_some o q u w e f x = let same : o ≡ q = cc in let alike : u ≡ w =
+      cc in subst (λ z. Atom z w) same (subst (λ z. Atom o z) alike x)
 
-  atom : (l : Expr-F Expr) (o : OpCode) (u : ValType) → atom_op p names l ≡ Some o → type_step (visible c) (map-Expr Expr (Option ValType) (type_of (visible c)) l) ≡ Some u → Atom o u
+  atom : (l : Expr-F Expr) (o : OpCode) (u : ValType) → atom_op p names l ≡ Some o →
+      type_step (visible c) (map-Expr Expr (Option ValType) (type_of (visible c)) l) ≡ Some u → Atom o u
   atom (Expr-F.Number n) o u e f = by_some (op.Const (v.Int n)) o ty.Int u e f (record { given = refl; needed = λ top. refl })
   atom Expr-F.True o u e f = by_some (op.Const (v.Bool true)) o ty.Bool u e f (record { given = refl; needed = λ top. refl })
   atom Expr-F.False o u e f = by_some (op.Const (v.Bool false)) o ty.Bool u e f (record { given = refl; needed = λ top. refl })
   atom Expr-F.Empty o u e f = by_some (op.Const (v.Set empty)) o ty.Set u e f (record { given = refl; needed = λ top. refl })
-  atom Expr-F.Src o u e f = by_some (get_op (slot_of names (codes "src")) (info_number p (codes "src"))) o ty.Node u e f (record { given = fit.source; needed = λ top. get_needs (slot_of names (codes "src")) (info_number p (codes "src")) top })
+  atom Expr-F.Src o u e f = by_some (get_op (slot_of names (codes "src")) (info_number p (codes "src"))) o ty.Node u e f
+      (record { given = fit.source; needed = λ top. get_needs (slot_of names (codes "src")) (info_number p (codes "src")) top })
   atom Expr-F.SelfNode o u e f = by_some op.Me o ty.Node u e f (record { given = refl; needed = λ top. refl })
   atom Expr-F.Home o u e f = by_some op.Home o ty.Node u e f (record { given = refl; needed = λ top. refl })
-  atom (Expr-F.Var n) o u e f = by_some (get_op (slot_of names n) (info_number p n)) o u u e refl (record { given = fit.reads n u f; needed = λ top. get_needs (slot_of names n) (info_number p n) top })
+  atom (Expr-F.Var n) o u e f = by_some (get_op (slot_of names n) (info_number p n)) o u u e refl
+      (record { given = fit.reads n u f; needed = λ top. get_needs (slot_of names n) (info_number p n) top })
   atom (Expr-F.One a) o u e f = cc (e)
   atom (Expr-F.Not a) o u e f = cc (e)
   atom (Expr-F.Count a) o u e f = cc (e)
   atom (Expr-F.Two q a b) o u e f = cc (e)
 
-  module _ (ops : List OpCode) (from : ℕ) (T : ℕ → List ValType) (step : (a : ℕ) (o : OpCode) → from ≤ a → HasOp ops a o → T (a + 1) ≡ types_after p slots o (T a)) where
+  module _ (ops : List OpCode) (from : ℕ) (T : ℕ → List ValType)
+      (step : (a : ℕ) (o : OpCode) → from ≤ a → HasOp ops a o → T (a + 1) ≡ types_after p slots o (T a)) where
     abbrev pub IsWell : ℕ → OpCode → Type 0
     IsWell a o = is_typed p slots o (T a) ≡ true
 
@@ -154,17 +178,24 @@ module _ (p : Protocol) (t : State) (h : Handler) (slots : List ValType) (width 
       pub over : Over ops IsWell at after
       pub more : T after ≡ pushed_on (T at) us
 
-    one_value : (at : ℕ) (o : OpCode) (ns rest : List ValType) (u : ValType) → from ≤ at → HasOp ops at o → T at ≡ ns ++ rest → needs p slots o (top_type (ns ++ rest)) ≡ ns → gives p slots o ≡ Some u → Over ops IsWell at (at + 1) × (T (at + 1) ≡ u ∷ rest)
+    one_value : (at : ℕ) (o : OpCode) (ns rest : List ValType) (u : ValType) → from ≤ at → HasOp ops at o → T at ≡ ns ++ rest →
+        needs p slots o (top_type (ns ++ rest)) ≡ ns → gives p slots o ≡ Some u →
+        Over ops IsWell at (at + 1) × (T (at + 1) ≡ u ∷ rest)
     one_value at o ns rest u f has e n g =
-        let x = gives_one p slots o ns rest u n g in
-        (over_one ops IsWell at o has (ap (is_typed p slots o) e ∙ x.typed), step at o f has ∙ (ap (types_after p slots o) e ∙ x.after))
+        let x = gives_one p slots o ns rest u n g in (
+          over_one ops IsWell at o has (ap (is_typed p slots o) e ∙ x.typed),
+          step at o f has
+              ∙ (ap (types_after p slots o) e ∙ x.after),
+        )
 
-    behind : (at after : ℕ) (o : OpCode) (n u : ValType) → from ≤ after → HasOp ops after o → needs p slots o n ≡ n ∷ [] → gives p slots o ≡ Some u → Adds (n ∷ []) at after → Adds (u ∷ []) at (after + 1)
+    behind : (at after : ℕ) (o : OpCode) (n u : ValType) → from ≤ after → HasOp ops after o → needs p slots o n ≡ n ∷ [] →
+        gives p slots o ≡ Some u → Adds (n ∷ []) at after → Adds (u ∷ []) at (after + 1)
     behind at after o n u f has e g x =
         let y = one_value after o (n ∷ []) (T at) u f has x.more e g in
         record { over = over_joined ops IsWell at after (after + 1) x.over y.0; more = y.1 }
 
-    pub adds : {at after : ℕ} {e : Expr} → Evaluates p names ops at e after → from ≤ at → (u : ValType) → type_in c e ≡ Some u → Adds (u ∷ []) at after
+    pub adds : {at after : ℕ} {e : Expr} → Evaluates p names ops at e after → from ≤ at → (u : ValType) →
+        type_in c e ≡ Some u → Adds (u ∷ []) at after
     adds (follows.atom {at = at} {e = e} {o = o} d has) f u g =
         let x = atom (out-Expr e) o u d (sym (type-is (visible c) e (out-Expr e) refl) ∙ g) in
         let y = one_value at o [] (T at) u f has refl (x.needed (top_type (T at))) x.given in
@@ -188,10 +219,16 @@ module _ (p : Protocol) (t : State) (h : Handler) (slots : List ValType) (width 
         let one = adds x f k.left k.first in
         let two = adds y (omega arith) k.right k.second in
         let stack : T after ≡ (k.right ∷ k.left ∷ []) ++ T at = two.more ∙ ap (λ l. k.right ∷ l) one.more in
-        let z = one_value after (op.Two o) (k.right ∷ k.left ∷ []) (T at) u (omega arith) has stack k.needed (ap (λ z. Some z) k.given) in
-        record { over = over_joined ops IsWell at after (after + 1) (over_joined ops IsWell at middle after one.over two.over) z.0; more = z.1 }
+        let z = one_value after (op.Two o) (k.right ∷ k.left ∷ []) (T at) u (omega arith) has stack k.needed
+        (ap (λ z. Some z) k.given) in
+        record {
+          over = over_joined ops IsWell at after (after + 1)
+              (over_joined ops IsWell at middle after one.over two.over) z.0;
+          more = z.1;
+        }
 
-    pub all_add : {at after : ℕ} {es : List Expr} → EvaluatesAll p names ops at es after → from ≤ at → (us : List ValType) → map (type_in c) es ≡ map (λ u. Some u) us → Adds us at after
+    pub all_add : {at after : ℕ} {es : List Expr} → EvaluatesAll p names ops at es after → from ≤ at → (us : List ValType) →
+        map (type_in c) es ≡ map (λ u. Some u) us → Adds us at after
     all_add (follows.none {at = at}) f [] g = record { over = over_none ops IsWell at; more = refl }
     all_add (follows.none {at = at}) f (u ∷ us) g = cc
     all_add (follows.more {at = at} {middle = middle} {after = after} x xs) f [] g = cc
@@ -201,4 +238,8 @@ module _ (p : Protocol) (t : State) (h : Handler) (slots : List ValType) (width 
         let up = rises p names ops x in
         let one = adds x f u head in
         let others = all_add xs (omega arith) us tail in
-        record { over = over_joined ops IsWell at middle after one.over others.over; more = others.more ∙ ap (λ s. pushed_on s us) one.more }
+        record {
+          over = over_joined ops IsWell at middle after one.over others.over;
+          more = others.more
+              ∙ ap (λ s. pushed_on s us) one.more;
+        }

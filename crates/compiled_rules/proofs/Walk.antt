@@ -1,5 +1,6 @@
 -- What a rule asks of compiled statements, wherever their code stands.
-use Rattle.std.proofs.Common.{◌≡◌, ◌∙◌, ℕ, zero, suc, ◌+◌, ◌<◌, ◌≤◌, true, List, [], ◌∷◌, ◌++◌, length, length-append, append_assoc, Option, Some, None, refl, ap, sym, subst, arith}
+use Rattle.std.proofs.Common.{◌≡◌, ◌∙◌, ℕ, zero, suc, ◌+◌, ◌<◌, ◌≤◌, true, List, [], ◌∷◌, ◌++◌, length, length-append}
+use Rattle.std.proofs.Common.{append_assoc, Option, Some, None, refl, ap, sym, subst, arith}
 use Rattle.std.specs.Prelude.{codes, unwrap_or}
 use Rattle.std.proofs.lemmas.Bool.{and_parts}
 use Rattle.tw_base.specs.Lists.{Each}
@@ -12,7 +13,8 @@ use Rattle.teapot_tree.specs.declared.protocol.State.{State}
 use Rattle.teapot_tree.specs.declared.stmt.Do.{out-roll-Do}
 use Rattle.teapot_tree.specs.declared.stmt.Do.TheOpen.{Do-F}
 use Rattle.teapot_tree.specs.declared.stmt.Stmt.{Stmt}
-use Rattle.teapot_tree.specs.Bodies.{Simple, assign, send, send_all, set_tag, set_state, suspend, resume, install, enqueue, wake_up, error, Body, done, plain, branch, branches, loop, each, do_of, stmt, tree_of}
+use Rattle.teapot_tree.specs.Bodies.{Simple, assign, send, send_all, set_tag, set_state, suspend, resume, install, enqueue}
+use Rattle.teapot_tree.specs.Bodies.{wake_up, error, Body, done, plain, branch, branches, loop, each, do_of, stmt, tree_of}
 use Rattle.teapot_tree.specs.Parts.{depth, eaches, exprs_in, simple_exprs}
 use Rattle.teapot_tree.specs.Paths.{does, repeats, tests}
 use Rattle.teapot_tree.specs.Scopes.{message_number, state_number}
@@ -28,7 +30,8 @@ use Rattle.compiled_meaning.specs.Compiled.{Piece, all_code, code_of, expr_code,
 use Rattle.compiled_meaning.specs.Follows.{Evaluates, EvaluatesAll, get_op, put_op, slot_of}
 use Rattle.compiled_meaning.proofs.Accepted.{first_keeps, local_has, put_has, simple_keeps}
 use Rattle.compiled_meaning.proofs.Handlers.{append-nil}
-use Rattle.compiled_meaning.proofs.Placed.{all_placed, by_layer, expr_code-is, expr_placed, layer_code, layer_expr, loops_in-append, size, size-is}
+use Rattle.compiled_meaning.proofs.Placed.{all_placed, by_layer, expr_code-is, expr_placed, layer_code, layer_expr}
+use Rattle.compiled_meaning.proofs.Placed.{loops_in-append, size, size-is}
 use Rattle.compiled_meaning.proofs.Places.{HasAt, has_back, has_front}
 
 -- ---- expressions have no loops
@@ -47,7 +50,8 @@ flat_put None (Some k) = refl
 flat_put None None = refl
 
 module _ (p : Protocol) (names : List Name) where
-  layer_flat : (n : ℕ) → ((e : Expr) → size e < n → loops_in (expr_code p names e) ≡ 0) → (e : Expr) (l : Expr-F Expr) → out-Expr e ≡ l → size e < suc n → loops_in (layer_expr p names l) ≡ 0
+  layer_flat : (n : ℕ) → ((e : Expr) → size e < n → loops_in (expr_code p names e) ≡ 0) → (e : Expr) (l : Expr-F Expr) →
+      out-Expr e ≡ l → size e < suc n → loops_in (layer_expr p names l) ≡ 0
   unfolding layer_expr
   layer_flat n ih e (Expr-F.Var name) d lt = flat_get (slot_of names name) (info_number p name)
   layer_flat n ih e Expr-F.Src d lt = flat_get (slot_of names (codes "src")) (info_number p (codes "src"))
@@ -58,7 +62,9 @@ module _ (p : Protocol) (names : List Name) where
   layer_flat n ih e (Expr-F.Count a) d lt =
       flat-append (expr_code p names a) (op.Count ∷ []) (ih a (omega (arith, size-is e (Expr-F.Count a) d))) refl
   layer_flat n ih e (Expr-F.Two o a b) d lt =
-      flat-append (expr_code p names a) (expr_code p names b ++ op.Two o ∷ []) (ih a (omega (arith, size-is e (Expr-F.Two o a b) d))) (flat-append (expr_code p names b) (op.Two o ∷ []) (ih b (omega (arith, size-is e (Expr-F.Two o a b) d))) refl)
+      flat-append (expr_code p names a) (expr_code p names b ++ op.Two o ∷ [])
+      (ih a (omega (arith, size-is e (Expr-F.Two o a b) d)))
+      (flat-append (expr_code p names b) (op.Two o ∷ []) (ih b (omega (arith, size-is e (Expr-F.Two o a b) d))) refl)
   layer_flat n ih e _ d lt = refl
 
   below_flat : (n : ℕ) (e : Expr) → size e < n → loops_in (expr_code p names e) ≡ 0
@@ -94,7 +100,8 @@ simple_code p names a r = all_code p names (simple_exprs a) ++ op_list (last_op 
 module _ (p : Protocol) (names : List Name) where
   pub simple-is : (a : Simple) (at r k : ℕ) → layer_code p names (do_of a) at r k ≡ simple_code p names a r
   unfolding layer_code
-  simple-is (assign n e) at r k = ap (λ c. c ++ op_list (put_op (slot_of names n) (info_number p n))) (sym (append-nil (expr_code p names e)))
+  simple-is (assign n e) at r k = ap (λ c. c ++ op_list (put_op (slot_of names n) (info_number p n)))
+      (sym (append-nil (expr_code p names e)))
   simple-is (send e n xs) at r k = sym (append_assoc (expr_code p names e) (all_code p names xs) _)
   simple-is (send_all e n xs) at r k = sym (append_assoc (expr_code p names e) (all_code p names xs) _)
   simple-is (set_tag tag) at r k = refl
@@ -119,7 +126,8 @@ module _ (p : Protocol) (names : List Name) where
   simple_flat wake_up r = refl
   simple_flat (error n) r = refl
 
-has_op : (p : Protocol) (t : State) (h : Handler) (a : Simple) (r : ℕ) → Keeps (scope_of p t h) (does a) → (o : OpCode) × (last_op p (names_in t h) a r ≡ Some o)
+has_op : (p : Protocol) (t : State) (h : Handler) (a : Simple) (r : ℕ) → Keeps (scope_of p t h) (does a) →
+    (o : OpCode) × (last_op p (names_in t h) a r ≡ Some o)
 has_op p t h (assign n e) r k = put_has p t h n k.declared
 has_op p t h (send e n xs) r k = (op.Send (declared (message_number p n)), refl)
 has_op p t h (send_all e n xs) r k = (op.SendAll (declared (message_number p n)), refl)
@@ -190,7 +198,8 @@ module _ (p : Protocol) (t : State) (h : Handler) (ops : List OpCode) (Q : ℕ �
   moved : (at m n k i j : ℕ) → m ≡ n → i ≡ j → Q at m k i → Q at n k j
   moved at m n k i j e f x = subst (λ z. Q at n k z) f (subst (λ z. Q at z k i) e x)
 
-  first_goes : (line : ℕ) (l : Layer) (stmts : List Stmt) → Goes (layer_code p names l) → Goes (code_of p names stmts) → Goes (code_of p names (stmt line l ∷ stmts))
+  first_goes : (line : ℕ) (l : Layer) (stmts : List Stmt) → Goes (layer_code p names l) → Goes (code_of p names stmts) →
+      Goes (code_of p names (stmt line l ∷ stmts))
   first_goes line l stmts x y at r k has =
       let s = stmt line l in
       let one : Goes (stmt_code p names s) = subst Goes (sym (by_layer p names s l (out-roll-Do l))) x in
@@ -200,9 +209,11 @@ module _ (p : Protocol) (t : State) (h : Handler) (ops : List OpCode) (Q : ℕ �
       let count : k + loops_in c + loops_in m ≡ k + loops_in (c ++ m) = omega (arith, loops_in-append c m) in
       let front = one at r k (has_front ops at c m has) in
       let back = y (at + length c) (r + rests_in c) (k + loops_in c) (has_back ops at c m has) in
-      moved at _ _ k _ _ place count (q.joined at (at + length c) (at + length c + length m) k (k + loops_in c) (k + loops_in c + loops_in m) front back)
+      moved at _ _ k _ _ place count (q.joined at (at + length c) (at + length c + length m) k (k + loops_in c)
+      (k + loops_in c + loops_in m) front back)
 
-  simple_goes : (a : Simple) → Keeps (scope_of p t h) (does a) → Each Shallow (simple_exprs a) → Goes (layer_code p names (do_of a))
+  simple_goes : (a : Simple) → Keeps (scope_of p t h) (does a) → Each Shallow (simple_exprs a) →
+      Goes (layer_code p names (do_of a))
   simple_goes a keeps shallow at r k =
       let f = has_op p t h a r keeps in
       let c = all_code p names (simple_exprs a) in
@@ -211,10 +222,13 @@ module _ (p : Protocol) (t : State) (h : Handler) (ops : List OpCode) (Q : ℕ �
       let none : loops_in last ≡ 0 = sym (ap (λ o. loops_in (op_list o)) f.1) ∙ simple_flat p names a r in
       let place : at + length c + 1 ≡ at + length (c ++ last) = omega (arith, length-append c last) in
       let count : k ≡ k + loops_in (c ++ last) = omega (arith, loops_in-append c last, all_flat p names (simple_exprs a), none) in
-      let go : HasAt ops at (c ++ last) → Q at (at + length (c ++ last)) k (k + loops_in (c ++ last)) = λ has. moved at _ _ k _ _ place count (q.simple a f.0 at (at + length c) r k keeps shallow f.1 (all_placed p names ops (simple_exprs a) at (has_front ops at c last has)) (has_back ops at c last has).0) in
+      let go : HasAt ops at (c ++ last) → Q at (at + length (c ++ last)) k (k + loops_in (c ++ last)) =
+      λ has. moved at _ _ k _ _ place count (q.simple a f.0 at (at + length c) r k keeps shallow f.1
+      (all_placed p names ops (simple_exprs a) at (has_front ops at c last has)) (has_back ops at c last has).0) in
       subst (λ z. HasAt ops at z → Q at (at + length z) k (k + loops_in z)) (sym is) go
 
-  then_goes : (e : Expr) (first : List Stmt) → Keeps (scope_of p t h) (tests e) → Shallow e → Goes (code_of p names first) → Goes (layer_code p names (Do-F.If e first None))
+  then_goes : (e : Expr) (first : List Stmt) → Keeps (scope_of p t h) (tests e) → Shallow e → Goes (code_of p names first) →
+      Goes (layer_code p names (Do-F.If e first None))
   unfolding layer_code
   then_goes e first keeps shallow x at r k has =
       let c = expr_code p names e in
@@ -224,9 +238,11 @@ module _ (p : Protocol) (t : State) (h : Handler) (ops : List OpCode) (Q : ℕ �
       let back = has_back ops at c rest has in
       let place : to ≡ at + length (c ++ rest) = omega (arith, length-append c rest) in
       let count : k + loops_in a ≡ k + loops_in (c ++ rest) = omega (arith, loops_in-append c rest, expr_flat p names e) in
-      moved at _ _ k _ _ place count (q.tested e at (at + length c) to k (k + loops_in a) keeps shallow (expr_placed p names ops e at (has_front ops at c rest has)) back.0 (x (at + length c + 1) r k back.1))
+      moved at _ _ k _ _ place count (q.tested e at (at + length c) to k (k + loops_in a) keeps shallow
+      (expr_placed p names ops e at (has_front ops at c rest has)) back.0 (x (at + length c + 1) r k back.1))
 
-  else_goes : (e : Expr) (first second : List Stmt) → Keeps (scope_of p t h) (tests e) → Shallow e → Goes (code_of p names first) → Goes (code_of p names second) → Goes (layer_code p names (Do-F.If e first (Some second)))
+  else_goes : (e : Expr) (first second : List Stmt) → Keeps (scope_of p t h) (tests e) → Shallow e →
+      Goes (code_of p names first) → Goes (code_of p names second) → Goes (layer_code p names (Do-F.If e first (Some second)))
   unfolding layer_code
   else_goes e first second keeps shallow x y at r k has =
       let c = expr_code p names e in
@@ -239,10 +255,16 @@ module _ (p : Protocol) (t : State) (h : Handler) (ops : List OpCode) (Q : ℕ �
       let back = has_back ops at c rest has in
       let after = has_back ops (at + length c + 1) a jump back.1 in
       let place : to ≡ at + length (c ++ rest) = omega (arith, length-append c rest, length-append a jump) in
-      let count : k + loops_in a + loops_in b ≡ k + loops_in (c ++ rest) = omega (arith, loops_in-append c rest, loops_in-append a jump, expr_flat p names e) in
-      moved at _ _ k _ _ place count (q.branched e at (at + length c) mid to k (k + loops_in a) (k + loops_in a + loops_in b) keeps shallow (expr_placed p names ops e at (has_front ops at c rest has)) back.0 (x (at + length c + 1) r k (has_front ops (at + length c + 1) a jump back.1)) after.0 (y (mid + 1) (r + rests_in a) (k + loops_in a) after.1))
+      let count : k + loops_in a + loops_in b ≡ k + loops_in (c ++ rest) =
+      omega (arith, loops_in-append c rest, loops_in-append a jump, expr_flat p names e) in
+      moved at _ _ k _ _ place count (q.branched e at (at + length c) mid to k (k + loops_in a)
+      (k + loops_in a + loops_in b) keeps shallow (expr_placed p names ops e at (has_front ops at c rest has)) back.0
+      (x (at + length c + 1) r k (has_front ops (at + length c + 1) a jump back.1)) after.0
+      (y (mid + 1) (r + rests_in a) (k + loops_in a) after.1))
 
-  loop_goes : (v : Name) (e : Expr) (body : List Stmt) (s : ℕ) → slot_of names v ≡ Some s → Keeps (scope_of p t h) (repeats v e) → Shallow e → Goes (code_of p names body) → Goes (layer_code p names (Do-F.ForEach v e body))
+  loop_goes : (v : Name) (e : Expr) (body : List Stmt) (s : ℕ) → slot_of names v ≡ Some s →
+      Keeps (scope_of p t h) (repeats v e) → Shallow e → Goes (code_of p names body) →
+      Goes (layer_code p names (Do-F.ForEach v e body))
   unfolding layer_code
   loop_goes v e body s is keeps shallow x at r k has =
       let c = expr_code p names e in
@@ -253,38 +275,52 @@ module _ (p : Protocol) (t : State) (h : Handler) (ops : List OpCode) (Q : ℕ �
       let slot = unwrap_or (slot_of names v) 0 in
       let rest = op.Put k ∷ op.EachNext slot k (end + 1) ∷ (b ++ last) in
       let back = has_back ops at c rest has in
-      let next : HasOp ops start (op.EachNext s k (end + 1)) = subst (λ o. HasOp ops start (op.EachNext (unwrap_or o 0) k (end + 1))) is back.1.0 in
+      let next : HasOp ops start (op.EachNext s k (end + 1)) =
+      subst (λ o. HasOp ops start (op.EachNext (unwrap_or o 0) k (end + 1))) is back.1.0 in
       let place : end + 1 ≡ at + length (c ++ rest) = omega (arith, length-append c rest, length-append b last) in
-      let count : k + 1 + loops_in b ≡ k + loops_in (c ++ rest) = omega (arith, loops_in-append c rest, loops_in-append b last, expr_flat p names e) in
-      moved at _ _ k _ _ place count (q.looped v e s at (at + length c) end k (k + 1 + loops_in b) keeps shallow is (expr_placed p names ops e at (has_front ops at c rest has)) back.0 next (x (start + 1) r (k + 1) (has_front ops (start + 1) b last back.1.1)) (has_back ops (start + 1) b last back.1.1).0)
+      let count : k + 1 + loops_in b ≡ k + loops_in (c ++ rest) =
+      omega (arith, loops_in-append c rest, loops_in-append b last, expr_flat p names e) in
+      moved at _ _ k _ _ place count (q.looped v e s at (at + length c) end k (k + 1 + loops_in b) keeps shallow is
+      (expr_placed p names ops e at (has_front ops at c rest has)) back.0 next
+      (x (start + 1) r (k + 1) (has_front ops (start + 1) b last back.1.1)) (has_back ops (start + 1) b last back.1.1).0)
 
   -- of the code of a handler
-  pub walk : (b : Body) → eaches b ≡ 0 → are_sound (scope_of p t h) (tree_of b) ≡ true → Each Shallow (exprs_in b) → Goes (code_of p names (tree_of b))
+  pub walk : (b : Body) → eaches b ≡ 0 → are_sound (scope_of p t h) (tree_of b) ≡ true → Each Shallow (exprs_in b) →
+      Goes (code_of p names (tree_of b))
   walk done n e f = λ at r k has.
       let place : at ≡ at + 0 = omega arith in
       let count : k ≡ k + 0 = omega arith in
       moved at _ _ k _ _ place count (q.empty at k)
   walk (plain line a b) n e f =
       let parts = first_keeps p t h line (do_of a) (tree_of b) e in
-      first_goes line (do_of a) (tree_of b) (simple_goes a (simple_keeps p t h a parts.0) (each_left Shallow (simple_exprs a) (exprs_in b) f)) (walk b n parts.1 (each_right Shallow (simple_exprs a) (exprs_in b) f))
+      first_goes line (do_of a) (tree_of b) (simple_goes a (simple_keeps p t h a parts.0)
+      (each_left Shallow (simple_exprs a) (exprs_in b) f))
+      (walk b n parts.1 (each_right Shallow (simple_exprs a) (exprs_in b) f))
   walk (branch line x u b) n e f =
       let l : Layer = Do-F.If x (tree_of u) None in
       let parts = first_keeps p t h line l (tree_of b) e in
       let inner = and_parts (keeps (scope_of p t h) (tests x)) _ parts.0 in
       let first = and_parts (are_sound (scope_of p t h) (tree_of u)) _ inner.1 in
-      first_goes line l (tree_of b) (then_goes x (tree_of u) (unpacked (scope_of p t h) (tests x) inner.0) f.0 (walk u (omega arith) first.0 (each_left Shallow (exprs_in u) (exprs_in b) f.1))) (walk b (omega arith) parts.1 (each_right Shallow (exprs_in u) (exprs_in b) f.1))
+      first_goes line l (tree_of b) (then_goes x (tree_of u) (unpacked (scope_of p t h) (tests x) inner.0) f.0
+      (walk u (omega arith) first.0 (each_left Shallow (exprs_in u) (exprs_in b) f.1)))
+      (walk b (omega arith) parts.1 (each_right Shallow (exprs_in u) (exprs_in b) f.1))
   walk (branches line x u w b) n e f =
       let l : Layer = Do-F.If x (tree_of u) (Some (tree_of w)) in
       let parts = first_keeps p t h line l (tree_of b) e in
       let inner = and_parts (keeps (scope_of p t h) (tests x)) _ parts.0 in
       let both = and_parts (are_sound (scope_of p t h) (tree_of u)) _ inner.1 in
       let more = each_right Shallow (exprs_in u) (exprs_in w ++ exprs_in b) f.1 in
-      first_goes line l (tree_of b) (else_goes x (tree_of u) (tree_of w) (unpacked (scope_of p t h) (tests x) inner.0) f.0 (walk u (omega arith) both.0 (each_left Shallow (exprs_in u) (exprs_in w ++ exprs_in b) f.1)) (walk w (omega arith) both.1 (each_left Shallow (exprs_in w) (exprs_in b) more))) (walk b (omega arith) parts.1 (each_right Shallow (exprs_in w) (exprs_in b) more))
+      first_goes line l (tree_of b) (else_goes x (tree_of u) (tree_of w) (unpacked (scope_of p t h) (tests x) inner.0) f.0
+      (walk u (omega arith) both.0 (each_left Shallow (exprs_in u) (exprs_in w ++ exprs_in b) f.1))
+      (walk w (omega arith) both.1 (each_left Shallow (exprs_in w) (exprs_in b) more)))
+      (walk b (omega arith) parts.1 (each_right Shallow (exprs_in w) (exprs_in b) more))
   walk (loop line v x u b) n e f =
       let l : Layer = Do-F.ForEach v x (tree_of u) in
       let parts = first_keeps p t h line l (tree_of b) e in
       let inner = and_parts (keeps (scope_of p t h) (repeats v x)) _ parts.0 in
       let kept = unpacked (scope_of p t h) (repeats v x) inner.0 in
       let slot = local_has t h v kept.declared in
-      first_goes line l (tree_of b) (loop_goes v x (tree_of u) slot.0 slot.1 kept f.0 (walk u (omega arith) inner.1 (each_left Shallow (exprs_in u) (exprs_in b) f.1))) (walk b (omega arith) parts.1 (each_right Shallow (exprs_in u) (exprs_in b) f.1))
+      first_goes line l (tree_of b) (loop_goes v x (tree_of u) slot.0 slot.1 kept f.0
+      (walk u (omega arith) inner.1 (each_left Shallow (exprs_in u) (exprs_in b) f.1)))
+      (walk b (omega arith) parts.1 (each_right Shallow (exprs_in u) (exprs_in b) f.1))
   walk (each line v s u b) n e f = absurd (omega arith)

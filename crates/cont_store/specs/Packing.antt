@@ -1,5 +1,6 @@
 -- The values of a record's slots, packed: a mask of those that are not Int 0, and these alone.
-use Rattle.std.specs.Prelude.{◌≡◌, ℕ, zero, suc, ◌+◌, ◌-◌, ◌*◌, ◌/◌, ◌%◌, ◌==◌, Bool, true, false, not, if◌then◌else◌, List, [], ◌∷◌, filter, count_by, drop, length, nat_le}
+use Rattle.std.specs.Prelude.{◌≡◌, ℕ, zero, suc, ◌+◌, ◌-◌, ◌*◌, ◌/◌, ◌%◌, ◌==◌, Bool, true, false, not, if◌then◌else◌, List, []}
+use Rattle.std.specs.Prelude.{◌∷◌, filter, count_by, drop, length, nat_le}
 use Rattle.tw_base.specs.declared.value.Value.{Value}
 use Rattle.tw_base.specs.declared.value.Value.TheVariants.{Int}
 

@@ -1,6 +1,8 @@
 -- What the calls need: one queue, as it stands in the vector, becomes another.
 use mir.Val.{bool_byte}
-use Rattle.std.proofs.Common.{◌≡◌, ℕ, ◌+◌, ◌-◌, ◌^◌, ◌<◌, ◌≤◌, Bool, true, false, ◌||◌, nat_lt, Option, Some, None, length, length-append, List, [], ◌∷◌, ◌++◌, map, take, drop, set, get_or, arith, refl, ap, sym, ◌∙◌, subst}
+use Rattle.std.proofs.Common.{◌≡◌, ℕ, ◌+◌, ◌-◌, ◌^◌, ◌<◌, ◌≤◌, Bool, true, false, ◌||◌, nat_lt, Option, Some, None, length}
+use Rattle.std.proofs.Common.{length-append, List, [], ◌∷◌, ◌++◌, map, take, drop, set, get_or, arith, refl, ap, sym, ◌∙◌}
+use Rattle.std.proofs.Common.{subst}
 use Rattle.std.specs.Prelude.{slice_get, is_some, not, OnErr, Result, Ok, Err}
 use Rattle.std.specs.List.{count_by, list_any}
 use Rattle.std.proofs.lemmas.Bool.Decides.{Decides-ltb, nat_tests}
@@ -12,10 +14,12 @@ use Rattle.dsm_runs.specs.Events.{free}
 use Rattle.dsm_runs.proofs.Lists.{Each-append, Each-implied}
 use Rattle.deferred_queues.specs.declared.held.Held.{Held}
 use Rattle.deferred_queues.specs.Deferrals.{AreKept, TakesFirst}
-use Rattle.deferred_queues.specs.Queues.{AreEmpty, IsEarliest, IsEmptyQueue, IsPast, BlockQueue, StartsFrom, by_arrival, first_of, is_earlier, is_open, before, freed, pushed}
+use Rattle.deferred_queues.specs.Queues.{AreEmpty, IsEarliest, IsEmptyQueue, IsPast, BlockQueue, StartsFrom, by_arrival}
+use Rattle.deferred_queues.specs.Queues.{first_of, is_earlier, is_open, before, freed, pushed}
 use Rattle.deferred_queues.proofs.Lists.{each-at}
 use Rattle.deferred_queues.proofs.Queueing.{has_open, list_freed, list_popped, list_pushed, not_below, stale}
-use Rattle.deferred_queues.proofs.Keeping.{kept_freed, kept_popped, kept_pushed, kept_roomy, kept_tight, list_wider, of_block, one_if, wider, wider_is}
+use Rattle.deferred_queues.proofs.Keeping.{kept_freed, kept_popped, kept_pushed, kept_roomy, kept_tight, list_wider, of_block}
+use Rattle.deferred_queues.proofs.Keeping.{one_if, wider, wider_is}
 
 pub not_some : {X : Type 0} (o : Option X) → not (is_some o) ≡ true → o ≡ None
 not_some None h = refl
@@ -267,7 +271,8 @@ none_open [] x none = tt
 none_open (q ∷ qs) x none =
     let sum : count_by is_open (q ∷ qs) ≡ one_if (is_open q) + count_by is_open qs =
     sum_by-cons (λ (y : BlockQueue). one_if (is_open y)) q qs in (
-      λ c e. let one : one_if (is_open q) ≡ 1 = ap (λ (o : Option ℕ). one_if (is_some o)) e in absurd (omega (arith, sum, none, one)),
+      λ c e. let one : one_if (is_open q) ≡ 1 = ap (λ (o : Option ℕ). one_if (is_some o)) e in absurd
+          (omega (arith, sum, none, one)),
       none_open qs x (omega (arith, sum, none)),
     )
 

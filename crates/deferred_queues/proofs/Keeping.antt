@@ -1,5 +1,7 @@
 -- What is kept of the queues stays, whichever of them changes.
-use Rattle.std.proofs.Common.{◌≡◌, ◌≢◌, ℕ, zero, suc, ◌+◌, ◌-◌, ◌^◌, ◌<◌, ◌≤◌, ◌⊎◌, Bool, true, false, if◌then◌else◌, nat_lt, Option, Some, None, length, List, [], ◌∷◌, ◌++◌, set, cond, arith, refl, ap, sym, ◌∙◌, subst, inl, inr, lit<}
+use Rattle.std.proofs.Common.{◌≡◌, ◌≢◌, ℕ, zero, suc, ◌+◌, ◌-◌, ◌^◌, ◌<◌, ◌≤◌, ◌⊎◌, Bool, true, false, if◌then◌else◌, nat_lt}
+use Rattle.std.proofs.Common.{Option, Some, None, length, List, [], ◌∷◌, ◌++◌, set, cond, arith, refl, ap, sym, ◌∙◌, subst, inl}
+use Rattle.std.proofs.Common.{inr, lit<}
 use Rattle.std.specs.Prelude.{slice_get, is_some}
 use Rattle.std.specs.List.{count_by}
 use Rattle.std.proofs.Math.ListN.{length-set}
@@ -13,7 +15,9 @@ use Rattle.dsm_runs.specs.Events.{free}
 use Rattle.dsm_runs.proofs.Lists.{Each-append, Each-implied}
 use Rattle.deferred_queues.specs.declared.held.Held.{Held}
 use Rattle.deferred_queues.specs.Deferrals.{AreKept, DeferredList, list_of, nothing_deferred}
-use Rattle.deferred_queues.specs.Queues.{AreEmpty, AreOfBlocks, AreRising, AreSound, ComesAfter, ComesBefore, HaveRoom, IsEmptyQueue, IsOfBlock, IsPast, BlockQueue, all_at, by_arrival, came_at, first_before, first_of, is_open, before, freed, pushed}
+use Rattle.deferred_queues.specs.Queues.{AreEmpty, AreOfBlocks, AreRising, AreSound, ComesAfter, ComesBefore, HaveRoom}
+use Rattle.deferred_queues.specs.Queues.{IsEmptyQueue, IsOfBlock, IsPast, BlockQueue, all_at, by_arrival, came_at, first_before}
+use Rattle.deferred_queues.specs.Queues.{first_of, is_open, before, freed, pushed}
 use Rattle.deferred_queues.proofs.Lists.{each-at, each-set, flat-last, flat-same, joined-same}
 use Rattle.deferred_queues.proofs.Queueing.{all_freed, all_pushed_here, first_arrival, popped_here, popped_other, pushed_other}
 

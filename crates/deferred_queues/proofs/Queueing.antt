@@ -1,5 +1,6 @@
 -- One queue that changes, and the list that all queues are.
-use Rattle.std.proofs.Common.{◌≡◌, ◌≢◌, ℕ, zero, suc, ◌+◌, ◌<◌, ◌≤◌, Bool, true, false, if◌then◌else◌, nat_eq, nat_lt, Option, Some, None, List, [], ◌∷◌, ◌++◌, map, set, arith, refl, ap, sym, ◌∙◌, subst, inl, inr, append-nil}
+use Rattle.std.proofs.Common.{◌≡◌, ◌≢◌, ℕ, zero, suc, ◌+◌, ◌<◌, ◌≤◌, Bool, true, false, if◌then◌else◌, nat_eq, nat_lt, Option}
+use Rattle.std.proofs.Common.{Some, None, List, [], ◌∷◌, ◌++◌, map, set, arith, refl, ap, sym, ◌∙◌, subst, inl, inr, append-nil}
 use Rattle.std.specs.Prelude.{slice_get, is_some, ◌||◌}
 use Rattle.std.specs.List.{filter, list_any}
 use Rattle.std.proofs.lemmas.Bool.{cases_eq, cases_lt}
@@ -16,8 +17,11 @@ use Rattle.dsm_runs.proofs.Lists.{Each-filter, Each-implied, nat_eq_refl}
 use Rattle.dsm_runs.proofs.Turns.{nat_eq_other}
 use Rattle.deferred_queues.specs.declared.held.Held.{Held}
 use Rattle.deferred_queues.specs.Deferrals.{TakesFirst}
-use Rattle.deferred_queues.specs.Queues.{AreOfBlocks, AreRising, AreSound, ComesAfter, ComesBefore, IsOfBlock, IsPast, BlockQueue, StartsFrom, all_at, before, by_arrival, came_at, first_before, first_of, freed, is_open, pushed, waiting}
-use Rattle.deferred_queues.proofs.Lists.{each-at, first_true, flat-any, flat-each, flat-first, flat-last, flat-same, joined-any, joined-cut, joined-each, joined-map, joined-same}
+use Rattle.deferred_queues.specs.Queues.{AreOfBlocks, AreRising, AreSound, ComesAfter, ComesBefore, IsOfBlock, IsPast}
+use Rattle.deferred_queues.specs.Queues.{BlockQueue, StartsFrom, all_at, before, by_arrival, came_at, first_before, first_of}
+use Rattle.deferred_queues.specs.Queues.{freed, is_open, pushed, waiting}
+use Rattle.deferred_queues.proofs.Lists.{each-at, first_true, flat-any, flat-each, flat-first, flat-last, flat-same, joined-any}
+use Rattle.deferred_queues.proofs.Lists.{joined-cut, joined-each, joined-map, joined-same}
 
 -- the message has this arrival number
 abbrev came : ℕ → Held → Bool

@@ -1,5 +1,6 @@
 -- The queues of deferred messages, and the one list that they are.
-use Rattle.std.specs.Prelude.{◌≡◌, ℕ, zero, suc, ◌<◌, ◌≤◌, Bool, true, false, if◌then◌else◌, nat_eq, nat_lt, length, List, [], ◌∷◌, ◌++◌, Option, Some, None, map, is_some, slice_get}
+use Rattle.std.specs.Prelude.{◌≡◌, ℕ, zero, suc, ◌<◌, ◌≤◌, Bool, true, false, if◌then◌else◌, nat_eq, nat_lt, length, List, []}
+use Rattle.std.specs.Prelude.{◌∷◌, ◌++◌, Option, Some, None, map, is_some, slice_get}
 use Rattle.std.specs.List.{filter, flat_map}
 use Rattle.tw_base.specs.Lists.{Each}
 use Rattle.dsm_runs.specs.declared.mode.Waiting.{Waiting}

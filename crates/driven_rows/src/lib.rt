@@ -1,5 +1,5 @@
-//! Machines that are driven event by event, under Stache or the protocol that a name says, for tests of the model, of coherence and of all nodes on one thread:
-//! their texts, the events, and the reports of their runs, worked out by hand.
+//! Machines that are driven event by event, under Stache or the protocol that a name says, for tests of the model, of coherence
+//! and of all nodes on one thread: their texts, the events, and the reports of their runs, worked out by hand.
 //!
 //! A row of events is an event that is made, as `I 0` of an instruction at node 0, `R 2` of a redelivery at node 2 and
 //! `D 2 0 1` of a delivery at node 2 from node 0 on channel 1; or an event that is not enabled; or what is on a wire then, as

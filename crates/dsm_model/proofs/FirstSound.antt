@@ -33,14 +33,18 @@ first_served s i b h =
     is_below-roll (length s.protocol.states) _
     ∙ both _ true ((Decides-ltb _ (length s.protocol.states)).1 (start_below s _ h)) refl
 
-all_served : (s : Setup) (i : ℕ) (bs : List ℕ) → 0 < length s.protocol.states → list_all (is_served s) (map (first_here s i) bs) ≡ true
+all_served : (s : Setup) (i : ℕ) (bs : List ℕ) → 0 < length s.protocol.states →
+    list_all (is_served s) (map (first_here s i) bs) ≡ true
 all_served s i [] h = refl
-all_served s i (b ∷ bs) h = both (is_served s (first_here s i b)) (list_all (is_served s) (map (first_here s i) bs)) (first_served s i b h) (all_served s i bs h)
+all_served s i (b ∷ bs) h = both (is_served s (first_here s i b)) (list_all (is_served s) (map (first_here s i) bs))
+    (first_served s i b h) (all_served s i bs h)
 
-pub first_sound : (s : Setup) (i : ℕ) (l : Node) → IsSetup s → l.blocks ≡ map (first_here s i) (range_with_len 0 s.shape.blocks) → l.deferred ≡ [] → l.sent ≡ 0 → IsSound s l
+pub first_sound : (s : Setup) (i : ℕ) (l : Node) → IsSetup s →
+    l.blocks ≡ map (first_here s i) (range_with_len 0 s.shape.blocks) → l.deferred ≡ [] → l.sent ≡ 0 → IsSound s l
 first_sound s i l is blocks deferred sent = record {
   count = ap (λ (hs : List Here). length hs) blocks ∙ length-map-range_with_len (first_here s i) 0 s.shape.blocks;
-  served = ap (λ (hs : List Here). list_all (is_served s) hs) blocks ∙ all_served s i (range_with_len 0 s.shape.blocks) (some_state s.protocol is.accepted);
+  served = ap (λ (hs : List Here). list_all (is_served s) hs) blocks
+      ∙ all_served s i (range_with_len 0 s.shape.blocks) (some_state s.protocol is.accepted);
   deferred = rw deferred refl;
   few = rw sent (omega arith);
 }

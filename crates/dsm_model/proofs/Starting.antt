@@ -1,5 +1,6 @@
 -- Nodes and wires at the start.
-use Rattle.std.proofs.Common.{◌≡◌, ℕ, zero, suc, ◌<◌, ◌⊎◌, inl, inr, List, [], ◌∷◌, ◌++◌, length, map, Some, refl, ap, sym, ◌∙◌, subst, arith}
+use Rattle.std.proofs.Common.{◌≡◌, ℕ, zero, suc, ◌<◌, ◌⊎◌, inl, inr, List, [], ◌∷◌, ◌++◌, length, map, Some, refl, ap, sym, ◌∙◌}
+use Rattle.std.proofs.Common.{subst, arith}
 use Rattle.std.specs.Prelude.{slice_get, unwrap_or, All}
 use Rattle.std.specs.List.{range_with_len, slice_index_or}
 use Rattle.std.proofs.lemmas.Bool.{cases_lt}
@@ -29,7 +30,8 @@ listed_or f n b = unwrap_or-slice_get (map f (range_with_len 0 n)) b (f b) ∙ e
   | inr le ↦ get_or_past (map f (range_with_len 0 n)) b (f b) (omega (arith, length-map-range_with_len f 0 n))
 ]
 
-slice_get_push : {X : Type 0} (xs : List X) (y : X) (i : ℕ) → (slice_get (xs ++ y ∷ []) i ≡ slice_get xs i) ⊎ ((i ≡ length xs) × (slice_get (xs ++ y ∷ []) i ≡ Some y))
+slice_get_push : {X : Type 0} (xs : List X) (y : X) (i : ℕ) →
+    (slice_get (xs ++ y ∷ []) i ≡ slice_get xs i) ⊎ ((i ≡ length xs) × (slice_get (xs ++ y ∷ []) i ≡ Some y))
 slice_get_push [] y zero = inr (refl, refl)
 slice_get_push [] y (suc i) = inl refl
 slice_get_push (x ∷ xs) y zero = inl refl
@@ -38,7 +40,8 @@ slice_get_push (x ∷ xs) y (suc i) = elim (slice_get_push xs y i) [
   | inr p ↦ inr (ap suc p.0, p.1)
 ]
 
-pub locals_push : (s : Setup) (xs : List Node) (l : Node) → ((i : ℕ) → locals_of s xs i ≡ first s i) → local_of s (length xs) l ≡ first s (length xs) → (i : ℕ) → locals_of s (xs ++ l ∷ []) i ≡ first s i
+pub locals_push : (s : Setup) (xs : List Node) (l : Node) → ((i : ℕ) → locals_of s xs i ≡ first s i) →
+    local_of s (length xs) l ≡ first s (length xs) → (i : ℕ) → locals_of s (xs ++ l ∷ []) i ≡ first s i
 locals_push s xs l so_far here i = elim (slice_get_push xs l i) [
   | inl e ↦ rw e (so_far i)
   | inr p ↦ rw p.1 (rw p.0 here)
@@ -65,13 +68,15 @@ room_push xs r so_far here f x at = elim (slice_get_push xs r f) [
     some_one : (a b : Outbox) → Some a ≡ Some b → a ≡ b
     some_one a b e = cc
 
-pub wires_push : (xs : List Outbox) (r : Outbox) → ((f t : ℕ) (c : Chan) → wires_of xs f t c ≡ []) → ((t : ℕ) (c : Chan) → queue_of r t c ≡ []) → (f t : ℕ) (c : Chan) → wires_of (xs ++ r ∷ []) f t c ≡ []
+pub wires_push : (xs : List Outbox) (r : Outbox) → ((f t : ℕ) (c : Chan) → wires_of xs f t c ≡ []) →
+    ((t : ℕ) (c : Chan) → queue_of r t c ≡ []) → (f t : ℕ) (c : Chan) → wires_of (xs ++ r ∷ []) f t c ≡ []
 wires_push xs r so_far here f t c = elim (slice_get_push xs r f) [
   | inl e ↦ rw e (so_far f t c)
   | inr p ↦ rw p.1 (here t c)
 ]
 
-pub nexts_push : (xs : List Outbox) (r : Outbox) → ((f t : ℕ) (c : Chan) → nexts_of xs f t c ≡ 0) → ((t : ℕ) (c : Chan) → next_in r t c ≡ 0) → (f t : ℕ) (c : Chan) → nexts_of (xs ++ r ∷ []) f t c ≡ 0
+pub nexts_push : (xs : List Outbox) (r : Outbox) → ((f t : ℕ) (c : Chan) → nexts_of xs f t c ≡ 0) →
+    ((t : ℕ) (c : Chan) → next_in r t c ≡ 0) → (f t : ℕ) (c : Chan) → nexts_of (xs ++ r ∷ []) f t c ≡ 0
 nexts_push xs r so_far here f t c = elim (slice_get_push xs r f) [
   | inl e ↦ rw e (so_far f t c)
   | inr p ↦ rw p.1 (here t c)

@@ -1,5 +1,6 @@
 -- What the program keeps of the nodes and of the wires.
-use Rattle.std.specs.Prelude.{◌≡◌, ℕ, ◌≤◌, ◌<◌, ◌^◌, nat_lt, ◌&&◌, Bool, true, length, List, Option, Some, None, slice_get, unwrap_or}
+use Rattle.std.specs.Prelude.{◌≡◌, ℕ, ◌≤◌, ◌<◌, ◌^◌, nat_lt, ◌&&◌, Bool, true, length, List, Option, Some, None, slice_get}
+use Rattle.std.specs.Prelude.{unwrap_or}
 use Rattle.std.specs.List.{list_all}
 use Rattle.tw_base.specs.declared.message.Chan.{Chan}
 use Rattle.tw_base.specs.declared.message.Message.{Message}

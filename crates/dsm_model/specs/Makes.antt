@@ -37,7 +37,13 @@ handled_node l block stamp h = record l {
 }
 
 abbrev pub handled_entry : ℕ → Act → ℕ → ℕ → Handling → Entry
-handled_entry me act block stamp h = record { stamp = stamp; node = me; act = act; sends = length h.sends; after = Some (after_of block h.ended) }
+handled_entry me act block stamp h = record {
+  stamp = stamp;
+  node = me;
+  act = act;
+  sends = length h.sends;
+  after = Some (after_of block h.ended);
+}
 
 -- an instruction that completes
 abbrev pub done_entry : ℕ → Node → Act → Entry

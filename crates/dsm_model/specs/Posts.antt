@@ -1,5 +1,6 @@
 -- What is taken off wires, and what is put on them.
-use Rattle.std.specs.Prelude.{◌≡◌, ℕ, ◌+◌, ◌≤◌, ◌&&◌, if◌then◌else◌, nat_eq, length, List, [], ◌++◌, Option, option_to_list, slice_get}
+use Rattle.std.specs.Prelude.{◌≡◌, ℕ, ◌+◌, ◌≤◌, ◌&&◌, if◌then◌else◌, nat_eq, length, List, [], ◌++◌, Option, option_to_list}
+use Rattle.std.specs.Prelude.{slice_get}
 use Rattle.std.specs.List.{filter}
 use Rattle.tw_base.specs.Lists.{Each}
 use Rattle.tw_base.specs.declared.message.Chan.{Chan}
@@ -12,7 +13,8 @@ use Rattle.dsm_model.specs.Views.{AllRoom, HasRoom, next_in, nexts_of, queue_of,
 pub record HasDropped (old new : Outbox) (to : ℕ) (chan : Chan) (front : Option Message) : Type 0 where
   pub is_front : front ≡ slice_get (queue_of old to chan) 0
   pub room : HasRoom new
-  pub queues : (t : ℕ) (c : Chan) → queue_of old t c ≡ (if nat_eq t to && chan_eq c chan then option_to_list front else []) ++ queue_of new t c
+  pub queues : (t : ℕ) (c : Chan) → queue_of old t c ≡ (if nat_eq t to && chan_eq c chan then option_to_list front else [])
+      ++ queue_of new t c
   pub next : (t : ℕ) (c : Chan) → next_in new t c ≡ next_in old t c
   pub rooms : (t : ℕ) (c : Chan) → room_in new t c ≡ room_in old t c
 
@@ -31,7 +33,8 @@ pub record HasPosted (me : ℕ) (old new : Outbox) (sends : List Message) : Type
 -- the wires have lost what the front of one wire was
 pub record HasTaken (old new : List Outbox) (from to : ℕ) (chan : Chan) (front : Option Message) : Type 0 where
   pub is_front : front ≡ slice_get (wires_of old from to chan) 0
-  pub wires : (f t : ℕ) (c : Chan) → wires_of old f t c ≡ (if nat_eq t to && (nat_eq f from && chan_eq c chan) then option_to_list front else []) ++ wires_of new f t c
+  pub wires : (f t : ℕ) (c : Chan) → wires_of old f t c ≡ (if nat_eq t to && (nat_eq f from && chan_eq c chan)
+      then option_to_list front else []) ++ wires_of new f t c
   pub next : (f t : ℕ) (c : Chan) → nexts_of new f t c ≡ nexts_of old f t c
   pub rooms : (f t : ℕ) (c : Chan) → rooms_of old f t c ≤ rooms_of new f t c
   pub size : length new ≡ length old
@@ -51,7 +54,8 @@ pub record HaveMadeRoom (old new : List Outbox) : Type 0 where
 
 -- the wires of these messages have room for as many more
 abbrev pub HavePlaces : List Outbox → ℕ → List Message → Type 0
-HavePlaces outboxes count sends = Each (λ m. length (wires_of outboxes m.from m.to m.chan) + count ≤ rooms_of outboxes m.from m.to m.chan) sends
+HavePlaces outboxes count sends =
+    Each (λ m. length (wires_of outboxes m.from m.to m.chan) + count ≤ rooms_of outboxes m.from m.to m.chan) sends
 
 -- all of these messages can be put on the wires
 abbrev pub CanSend : List Outbox → List Message → Type 0

@@ -1,4 +1,5 @@
-ghost use Rattle.std.specs.Prelude.{◌≡◌, ◌≤◌, ◌<◌, ◌++◌, ◌∷◌, [], Some, map, take, drop, length, remove, slice_get, slice_set, OnOk, OnErr};
+ghost use Rattle.std.specs.Prelude.{◌≡◌, ◌≤◌, ◌<◌, ◌++◌, ◌∷◌, [], Some, map, take, drop, length, remove, slice_get, slice_set};
+ghost use Rattle.std.specs.Prelude.{OnOk, OnErr};
 ghost use Rattle.std.specs.List.{count_by};
 ghost use Rattle.dsm_runs.specs.Events.{free};
 ghost use Rattle.dsm_runs.specs.Tests.{has_eligible};

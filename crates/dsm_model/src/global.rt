@@ -152,7 +152,8 @@ impl<'a> Global<'a> {
     pub fn make(&mut self, alloc: alloc::Global, e: Event) -> Result<Entry, Memory>
         requires { IsEnabled (setup_of self.old) (world_of self.old) e }
         ensures setup { setup_of self.new ≡ setup_of self.old }
-        ensures step { IfOk result (λ entry. (event_of entry ≡ e) × Step (setup_of self.old) (world_of self.old) entry (world_of self.new)) }
+        ensures step { IfOk result (λ entry. (event_of entry ≡ e)
+            × Step (setup_of self.old) (world_of self.old) entry (world_of self.new)) }
         ensures err { OnErr result (world_of self.new ≡ world_of self.old) }
     {
         make(alloc, self.setup, &mut self.locals, &mut self.outboxes, e)

@@ -130,7 +130,8 @@ fn keep(deferred: &mut Deferred, kept: Kept, message: Message) -> Result<(), Mem
 
 /// What the handler of a message does to the messages that are deferred. After an Err they are as before.
 pub fn defer(deferred: &mut Deferred, ended: &Ended, message: &Message) -> Result<(), Memory>
-    ensures ok { OnOk result (deferred.new ≡ with_kept ended.now.kept message.now (freed_if ended.now.freed message.now.block deferred.old)) }
+    ensures ok { OnOk result (deferred.new ≡ with_kept ended.now.kept message.now
+        (freed_if ended.now.freed message.now.block deferred.old)) }
     ensures err { OnErr result (deferred.new ≡ deferred.old) }
 {
     let count = deferred.len();

@@ -1,4 +1,5 @@
-ghost use Rattle.std.specs.Prelude.{◌≡◌, ◌<◌, ◌+◌, ◌*◌, ◌^◌, [], true, false, length, Some, None, IfOk, OnErr, slice_get, slice_index, slice_set};
+ghost use Rattle.std.specs.Prelude.{◌≡◌, ◌<◌, ◌+◌, ◌*◌, ◌^◌, [], true, false, length, Some, None, IfOk, OnErr, slice_get};
+ghost use Rattle.std.specs.Prelude.{slice_index, slice_set};
 ghost use Rattle.block_tags.specs.Copies.{permits};
 ghost use Rattle.mini_asm.specs.declared.cpu.Next.TheVariants as next;
 ghost use Rattle.tw_base.specs.declared.entry.Event.TheVariants as event;
@@ -95,7 +96,11 @@ fn with_word(words: Data, offset: u8, value: u64) -> Data
 fn write(alloc: Global, l: &mut Local, block: BlockId, offset: u8, value: u64)
     requires { block < length l.old.blocks }
     ensures { (here : Here) × (slice_get l.old.blocks block ≡ Some here)
-        × (l.new ≡ record l.old { blocks = slice_set l.old.blocks block (record here { words = slice_set here.words offset value }) }) }
+        × (l.new
+        ≡ record l.old {
+          blocks = slice_set l.old.blocks block
+              (record here { words = slice_set here.words offset value });
+        }) }
 {
     let mut blocks = mem::replace(&mut l.blocks, Listed::new(alloc)).into_vec();
     let here = &mut blocks[usize::from(block.get())];
@@ -151,7 +156,8 @@ fn fault(
     requires may { MayInstruct setup.now (local_of setup.now me l.old) }
     requires sound { IsSound setup.now l.old }
     requires block { block < setup.now.shape.blocks }
-    requires refused { IsRefused setup.now (asked setup.now me l.old.cpu) store block ((local_of setup.now me l.old).blocks block).tag }
+    requires refused { IsRefused setup.now (asked setup.now me l.old.cpu) store block
+        ((local_of setup.now me l.old).blocks block).tag }
     requires senders { length outboxes.old ≡ setup.now.shape.nodes }
     requires room { AllRoom outboxes.old }
     ensures made { IfOk result (λ made. IsMade setup.now me (event.Instr me) l.old None l.new made) }

@@ -23,7 +23,8 @@ fn make_instruction(
     requires kept { IsKept setup.now locals.old outboxes.old }
     requires enabled { IsEnabled setup.now (state_of setup.now locals.old outboxes.old) (event.Instr node) }
     ensures kept { IsKept setup.now locals.new outboxes.new }
-    ensures step { IfOk result (λ entry. (event_of entry ≡ event.Instr node) × Step setup.now (state_of setup.now locals.old outboxes.old) entry (state_of setup.now locals.new outboxes.new)) }
+    ensures step { IfOk result (λ entry. (event_of entry ≡ event.Instr node)
+        × Step setup.now (state_of setup.now locals.old outboxes.old) entry (state_of setup.now locals.new outboxes.new)) }
     ensures err { OnErr result (state_of setup.now locals.new outboxes.new ≡ state_of setup.now locals.old outboxes.old) }
 {
     let made = instruct(
@@ -48,7 +49,8 @@ fn make_redelivery(
     requires kept { IsKept setup.now locals.old outboxes.old }
     requires enabled { IsEnabled setup.now (state_of setup.now locals.old outboxes.old) (event.Redeliver node) }
     ensures kept { IsKept setup.now locals.new outboxes.new }
-    ensures step { IfOk result (λ entry. (event_of entry ≡ event.Redeliver node) × Step setup.now (state_of setup.now locals.old outboxes.old) entry (state_of setup.now locals.new outboxes.new)) }
+    ensures step { IfOk result (λ entry. (event_of entry ≡ event.Redeliver node)
+        × Step setup.now (state_of setup.now locals.old outboxes.old) entry (state_of setup.now locals.new outboxes.new)) }
     ensures err { OnErr result (state_of setup.now locals.new outboxes.new ≡ state_of setup.now locals.old outboxes.old) }
 {
     let made = redeliver(
@@ -75,7 +77,8 @@ fn make_delivery(
     requires kept { IsKept setup.now locals.old outboxes.old }
     requires enabled { IsEnabled setup.now (state_of setup.now locals.old outboxes.old) (event.Deliver at from chan) }
     ensures kept { IsKept setup.now locals.new outboxes.new }
-    ensures step { IfOk result (λ entry. (event_of entry ≡ event.Deliver at from chan) × Step setup.now (state_of setup.now locals.old outboxes.old) entry (state_of setup.now locals.new outboxes.new)) }
+    ensures step { IfOk result (λ entry. (event_of entry ≡ event.Deliver at from chan)
+        × Step setup.now (state_of setup.now locals.old outboxes.old) entry (state_of setup.now locals.new outboxes.new)) }
     ensures err { OnErr result (state_of setup.now locals.new outboxes.new ≡ state_of setup.now locals.old outboxes.old) }
 {
     let message = *wire(outboxes, from, at, chan).get(0).unwrap();
@@ -97,7 +100,8 @@ pub fn make(
     requires kept { IsKept setup.now locals.old outboxes.old }
     requires enabled { IsEnabled setup.now (state_of setup.now locals.old outboxes.old) e }
     ensures kept { IsKept setup.now locals.new outboxes.new }
-    ensures step { IfOk result (λ entry. (event_of entry ≡ e) × Step setup.now (state_of setup.now locals.old outboxes.old) entry (state_of setup.now locals.new outboxes.new)) }
+    ensures step { IfOk result (λ entry. (event_of entry ≡ e)
+        × Step setup.now (state_of setup.now locals.old outboxes.old) entry (state_of setup.now locals.new outboxes.new)) }
     ensures err { OnErr result (state_of setup.now locals.new outboxes.new ≡ state_of setup.now locals.old outboxes.old) }
 {
     match e {

@@ -24,7 +24,8 @@ fn add_delivery(
     requires from { from < (setup_of g.now).shape.nodes }
     requires may { may_handle (setup_of g.now) ((world_of g.now).locals at) ≡ true }
     requires none { has_eligible ((world_of g.now).locals at).deferred ≡ false }
-    ensures { OnOk result (some.new ≡ some.old ++ filter (is_enabled (setup_of g.now) (world_of g.now)) (event.Deliver at from chan ∷ [])) }
+    ensures { OnOk result (some.new ≡ some.old ++ filter (is_enabled (setup_of g.now) (world_of g.now))
+        (event.Deliver at from chan ∷ [])) }
 {
     if is_early(g.message(from, at, chan, 0)) {
         some.push(Event::Deliver { at, from, chan })?;
@@ -37,7 +38,8 @@ fn add_deliveries(g: &Global, at: NodeId, some: &mut Listed<Event>) -> Result<()
     requires at { at < (setup_of g.now).shape.nodes }
     requires may { may_handle (setup_of g.now) ((world_of g.now).locals at) ≡ true }
     requires none { has_eligible ((world_of g.now).locals at).deferred ≡ false }
-    ensures { OnOk result (some.new ≡ some.old ++ filter (is_enabled (setup_of g.now) (world_of g.now)) (deliveries at (setup_of g.now).shape.nodes)) }
+    ensures { OnOk result (some.new ≡ some.old ++ filter (is_enabled (setup_of g.now) (world_of g.now))
+        (deliveries at (setup_of g.now).shape.nodes)) }
 {
     for number in 0..g.setup().shape().nodes() {
         let from = NodeId::new(number).unwrap();
@@ -51,7 +53,8 @@ fn add_deliveries(g: &Global, at: NodeId, some: &mut Listed<Event>) -> Result<()
 /// delivery is.
 fn add_handlers(g: &Global, node: NodeId, some: &mut Listed<Event>) -> Result<(), Memory>
     requires { node < (setup_of g.now).shape.nodes }
-    ensures { OnOk result (some.new ≡ some.old ++ filter (is_enabled (setup_of g.now) (world_of g.now)) (event.Redeliver node ∷ deliveries node (setup_of g.now).shape.nodes)) }
+    ensures { OnOk result (some.new ≡ some.old ++ filter (is_enabled (setup_of g.now) (world_of g.now))
+        (event.Redeliver node ∷ deliveries node (setup_of g.now).shape.nodes)) }
 {
     let l = g.local(node);
     if !may_handle(g.setup(), node, l) {
@@ -66,7 +69,8 @@ fn add_handlers(g: &Global, node: NodeId, some: &mut Listed<Event>) -> Result<()
 /// Puts the events of a node that are enabled behind the others.
 fn add_enabled(g: &Global, node: NodeId, some: &mut Listed<Event>) -> Result<(), Memory>
     requires { node < (setup_of g.now).shape.nodes }
-    ensures { OnOk result (some.new ≡ some.old ++ filter (is_enabled (setup_of g.now) (world_of g.now)) (node_events (setup_of g.now).shape.nodes node)) }
+    ensures { OnOk result (some.new ≡ some.old ++ filter (is_enabled (setup_of g.now) (world_of g.now))
+        (node_events (setup_of g.now).shape.nodes node)) }
 {
     if may_instruct(g.setup(), node, g.local(node)) {
         some.push(Event::Instr(node))?;

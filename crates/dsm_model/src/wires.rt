@@ -56,7 +56,8 @@ pub fn reserve_all(outboxes: &mut [Outbox], sends: &[Message]) -> Result<(), Mem
 fn send(outboxes: &mut [Outbox], message: Message)
     requires from { message.from < length outboxes.old }
     requires room { AllRoom outboxes.old }
-    requires place { length (wires_of outboxes.old message.from message.to message.chan) < rooms_of outboxes.old message.from message.to message.chan }
+    requires place { length (wires_of outboxes.old message.from message.to message.chan) < rooms_of outboxes.old message.from
+        message.to message.chan }
     requires few { nexts_of outboxes.old message.from message.to message.chan < 2 ^ 64 - 1 }
     ensures sent { HasSent outboxes.old outboxes.new (message ∷ []) }
     ensures rooms { (f t : ℕ) (c : Chan) → rooms_of outboxes.new f t c ≡ rooms_of outboxes.old f t c }

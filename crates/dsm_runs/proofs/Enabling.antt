@@ -1,5 +1,6 @@
 -- In a state of a run an event that is enabled has a step.
-use Rattle.std.proofs.Common.{◌≡◌, ℕ, ◌+◌, ◌<◌, length, Bool, true, false, ◌&&◌, nat_eq, if◌then◌else◌, List, [], ◌∷◌, ◌++◌, Option, Some, None, refl, ap, sym, ◌∙◌, subst, eqb-true}
+use Rattle.std.proofs.Common.{◌≡◌, ℕ, ◌+◌, ◌<◌, length, Bool, true, false, ◌&&◌, nat_eq, if◌then◌else◌, List, [], ◌∷◌, ◌++◌}
+use Rattle.std.proofs.Common.{Option, Some, None, refl, ap, sym, ◌∙◌, subst, eqb-true}
 use Rattle.std.specs.Prelude.{max, option_to_list}
 use Rattle.std.specs.List.{filter}
 use Rattle.tw_base.specs.Lists.{Each}
@@ -24,7 +25,8 @@ use Rattle.dsm_runs.specs.declared.mode.Mode.TheVariants as mode
 use Rattle.dsm_runs.specs.Setups.{IsSetup, Setup, asked, block_of, finished, size_of}
 use Rattle.dsm_runs.specs.Locals.{Local, MayInstruct}
 use Rattle.dsm_runs.specs.Messages.{chan_eq, fault, on_wire, outgoing, posted}
-use Rattle.dsm_runs.specs.Events.{Acts, Completes, Handles, IsRefused, LocalStep, added_by, after_of, failure, freed_if, mode_after, tag_here, with_kept, with_word_here, word_here}
+use Rattle.dsm_runs.specs.Events.{Acts, Completes, Handles, IsRefused, LocalStep, added_by, after_of, failure, freed_if}
+use Rattle.dsm_runs.specs.Events.{mode_after, tag_here, with_kept, with_word_here, word_here}
 use Rattle.dsm_runs.specs.Worlds.{MayDeliver, MayRedeliver, Wires, World, event_of, taken, takes_from}
 use Rattle.dsm_runs.specs.Invariants.{EnabledEventsStep, IsDeferredAt, IsNodeOf, IsOnTheWay, Makes}
 use Rattle.dsm_runs.specs.Shown.{AsksWell}
@@ -59,7 +61,8 @@ completed l cpu m blocks = record {
 abbrev silent : ℕ → Local → Act → Entry
 silent i l a = record { stamp = l.clock + 1; node = i; act = a; sends = 0; after = None }
 
-completes : (s : Setup) (i : ℕ) (l : Local) (a : Act) (needs : Next) (cpu : Cpu) (m : Mode) (blocks : ℕ → Here) → MayInstruct s l → asked s i l.cpu ≡ needs
+completes : (s : Setup) (i : ℕ) (l : Local) (a : Act) (needs : Next) (cpu : Cpu) (m : Mode) (blocks : ℕ → Here) →
+    MayInstruct s l → asked s i l.cpu ≡ needs
     → Completes s i l None (completed l cpu m blocks) (silent i l a) [] needs cpu m
 completes s i l a needs cpu m blocks may asks = record {
   instructs = record { may = may; no_front = refl; instructions = refl; handled = refl };
@@ -72,7 +75,8 @@ completes s i l a needs cpu m blocks may asks = record {
   no_handler = refl;
 }
 
-instruction : (s : Setup) (i : ℕ) (l : Local) (a : Act) (cpu : Cpu) (m : Mode) (blocks : ℕ → Here) → i < s.shape.nodes → event_of (silent i l a) ≡ event.Instr i
+instruction : (s : Setup) (i : ℕ) (l : Local) (a : Act) (cpu : Cpu) (m : Mode) (blocks : ℕ → Here) → i < s.shape.nodes →
+    event_of (silent i l a) ≡ event.Instr i
     → Acts s i l None (completed l cpu m blocks) (silent i l a) [] a → MakesHere s i l None (event.Instr i)
 instruction s i l a cpu m blocks lt tells acts = record {
   entry = silent i l a;
@@ -96,7 +100,8 @@ handled m l ended stamp instructions count sends = record {
   sent = l.sent + length sends;
 }
 
-handles : (s : Setup) (i stamp : ℕ) (m : Message) (l : Local) (ended : Ended) (instructions count : ℕ) (sends : List Message) → Does s.protocol (l.blocks m.block) m ended → sends ≡ outgoing s.protocol i m.block stamp ended.sends
+handles : (s : Setup) (i stamp : ℕ) (m : Message) (l : Local) (ended : Ended) (instructions count : ℕ) (sends : List Message) →
+    Does s.protocol (l.blocks m.block) m ended → sends ≡ outgoing s.protocol i m.block stamp ended.sends
     → Handles s i stamp m l (handled m l ended stamp instructions count sends) sends (Some (after_of m.block ended))
 handles s i stamp m l ended instructions count sends does outs = record {
   ended = ended;
@@ -112,20 +117,30 @@ handles s i stamp m l ended instructions count sends does outs = record {
 }
 
 -- where it has a meaning
-meaning : (s : Setup) (i : ℕ) (l : Local) (m : Message) → IsSetup s → IsNodeOf s i l → m.block < s.shape.blocks → (e : Ended) × Does s.protocol (l.blocks m.block) m e
-meaning s i l m is h lt = let one = one_meaning s.protocol (l.blocks m.block) m is.accepted (h.blocks m.block lt).fits in (one.end, one.does)
+meaning : (s : Setup) (i : ℕ) (l : Local) (m : Message) → IsSetup s → IsNodeOf s i l → m.block < s.shape.blocks →
+    (e : Ended) × Does s.protocol (l.blocks m.block) m e
+meaning s i l m is h lt = let one = one_meaning s.protocol (l.blocks m.block) m is.accepted (h.blocks m.block lt).fits in
+    (one.end, one.does)
 
 -- ---- instructions
 
-refuses : (s : Setup) (i : ℕ) (l : Local) (store : Bool) (b : ℕ) → IsSetup s → IsNodeOf s i l → i < s.shape.nodes → MayInstruct s l → IsRefused s (asked s i l.cpu) store b (l.blocks b).tag → MakesHere s i l None (event.Instr i)
+refuses : (s : Setup) (i : ℕ) (l : Local) (store : Bool) (b : ℕ) → IsSetup s → IsNodeOf s i l → i < s.shape.nodes →
+    MayInstruct s l → IsRefused s (asked s i l.cpu) store b (l.blocks b).tag → MakesHere s i l None (event.Instr i)
 refuses s i l store b is h lt may refused =
-    let within : b < s.shape.blocks = refused_within s (asked s i l.cpu) store b _ is (asked_well s i l.cpu (asked s i l.cpu) refl) refused in
+    let within : b < s.shape.blocks = refused_within s (asked s i l.cpu) store b _ is
+    (asked_well s i l.cpu (asked s i l.cpu) refl) refused in
     let m : Message = fault store b i in
     let blocked : Local = record l { mode = mode.Blocked b } in
     let does = meaning s i blocked m is (record { blocks = h.blocks; deferred = h.deferred }) within in
     let sends : List Message = outgoing s.protocol i b (l.clock + 1) does.0.sends in
     record {
-      entry = record { stamp = l.clock + 1; node = i; act = act.Fault store b; sends = length sends; after = Some (after_of b does.0) };
+      entry = record {
+        stamp = l.clock + 1;
+        node = i;
+        act = act.Fault store b;
+        sends = length sends;
+        after = Some (after_of b does.0);
+      };
       after = handled m blocked does.0 (l.clock + 1) (l.instructions + 1) l.handled sends;
       sends = sends;
       tells = refl;
@@ -148,22 +163,33 @@ refuses s i l store b is h lt may refused =
 abbrev stored : Setup → Local → ℕ → ℕ → ℕ → Here
 stored s l address value = changed l.blocks (block_of s address) (with_word_here s address value (l.blocks (block_of s address)))
 
-loads : (s : Setup) (i : ℕ) (l : Local) (address : ℕ) (allowed : Bool) → IsSetup s → IsNodeOf s i l → i < s.shape.nodes → MayInstruct s l → asked s i l.cpu ≡ next.Access false address 0
+loads : (s : Setup) (i : ℕ) (l : Local) (address : ℕ) (allowed : Bool) → IsSetup s → IsNodeOf s i l → i < s.shape.nodes →
+    MayInstruct s l → asked s i l.cpu ≡ next.Access false address 0
     → permits (tag_here s l.blocks address) false ≡ allowed → MakesHere s i l None (event.Instr i)
 loads s i l address true is h lt may asks allowed =
     let value : ℕ = word_here s l.blocks address in
     instruction s i l (act.Load address value) (finished s i l.cpu value) mode.Running l.blocks lt refl
     (completes s i l _ _ _ _ l.blocks may asks, record { allowed = allowed; reads = refl; blocks = λ b. refl })
-loads s i l address false is h lt may asks allowed = refuses s i l false (block_of s address) is h lt may (rw asks (refl, refl, allowed))
+loads s i l address false is h lt may asks allowed = refuses s i l false (block_of s address) is h lt may
+    (rw asks (refl, refl, allowed))
 
-stores : (s : Setup) (i : ℕ) (l : Local) (address value : ℕ) (allowed : Bool) → IsSetup s → IsNodeOf s i l → i < s.shape.nodes → MayInstruct s l → asked s i l.cpu ≡ next.Access true address value
+stores : (s : Setup) (i : ℕ) (l : Local) (address value : ℕ) (allowed : Bool) → IsSetup s → IsNodeOf s i l →
+    i < s.shape.nodes → MayInstruct s l → asked s i l.cpu ≡ next.Access true address value
     → permits (tag_here s l.blocks address) true ≡ allowed → MakesHere s i l None (event.Instr i)
 stores s i l address value true is h lt may asks allowed =
-    instruction s i l (act.Store address value) (finished s i l.cpu 0) mode.Running (stored s l address value) lt refl
-    (completes s i l _ _ _ _ (stored s l address value) may asks, record { allowed = allowed; block = changed_here l.blocks (block_of s address) _; others = λ b d. changed_other l.blocks (block_of s address) _ b d })
-stores s i l address value false is h lt may asks allowed = refuses s i l true (block_of s address) is h lt may (rw asks (refl, refl, allowed))
+    instruction s i l (act.Store address value) (finished s i l.cpu 0) mode.Running (stored s l address value) lt refl (
+      completes s i l _ _ _ _ (stored s l address value) may asks,
+      record {
+        allowed = allowed;
+        block = changed_here l.blocks (block_of s address) _;
+        others = λ b d. changed_other l.blocks (block_of s address) _ b d;
+      },
+    )
+stores s i l address value false is h lt may asks allowed = refuses s i l true (block_of s address) is h lt may
+    (rw asks (refl, refl, allowed))
 
-adds : (s : Setup) (i : ℕ) (l : Local) (address added : ℕ) (allowed : Bool) → IsSetup s → IsNodeOf s i l → i < s.shape.nodes → MayInstruct s l → asked s i l.cpu ≡ next.Faa address added
+adds : (s : Setup) (i : ℕ) (l : Local) (address added : ℕ) (allowed : Bool) → IsSetup s → IsNodeOf s i l → i < s.shape.nodes →
+    MayInstruct s l → asked s i l.cpu ≡ next.Faa address added
     → permits (tag_here s l.blocks address) true ≡ allowed → MakesHere s i l None (event.Instr i)
 adds s i l address added true is h lt may asks allowed =
     let value : ℕ = word_here s l.blocks address in
@@ -175,24 +201,38 @@ adds s i l address added true is h lt may asks allowed =
       record {
         reads = refl;
         sums = ap (λ n. wrap (value + n)) (sym by);
-        stores = record { allowed = allowed; block = changed_here l.blocks (block_of s address) _; others = λ b d. changed_other l.blocks (block_of s address) _ b d };
+        stores = record {
+          allowed = allowed;
+          block = changed_here l.blocks (block_of s address) _;
+          others = λ b d. changed_other l.blocks (block_of s address) _ b d;
+        };
       },
     )
-adds s i l address added false is h lt may asks allowed = refuses s i l true (block_of s address) is h lt may (rw asks (refl, refl, allowed))
+adds s i l address added false is h lt may asks allowed = refuses s i l true (block_of s address) is h lt may
+    (rw asks (refl, refl, allowed))
 
-instructs : (s : Setup) (i : ℕ) (l : Local) (n : Next) → IsSetup s → IsNodeOf s i l → i < s.shape.nodes → MayInstruct s l → AsksWell (size_of s) n → asked s i l.cpu ≡ n → MakesHere s i l None (event.Instr i)
+instructs : (s : Setup) (i : ℕ) (l : Local) (n : Next) → IsSetup s → IsNodeOf s i l → i < s.shape.nodes → MayInstruct s l →
+    AsksWell (size_of s) n → asked s i l.cpu ≡ n → MakesHere s i l None (event.Instr i)
 instructs s i l (next.Access false address value) is h lt may well asks =
-    loads s i l address (permits (tag_here s l.blocks address) false) is h lt may (asks ∙ ap (next.Access false address) well.1) refl
-instructs s i l (next.Access true address value) is h lt may well asks = stores s i l address value (permits (tag_here s l.blocks address) true) is h lt may asks refl
-instructs s i l (next.Faa address added) is h lt may well asks = adds s i l address added (permits (tag_here s l.blocks address) true) is h lt may asks refl
-instructs s i l (next.Trap why) is h lt may well asks = instruction s i l (act.Trapped why) l.cpu (mode.Trapped why) l.blocks lt refl (completes s i l _ _ _ _ l.blocks may asks, λ b. refl)
-instructs s i l next.Halt is h lt may well asks = instruction s i l act.Halt l.cpu mode.Halted l.blocks lt refl (completes s i l _ _ _ _ l.blocks may asks, λ b. refl)
-instructs s i l (next.Print value) is h lt may well asks = instruction s i l (act.Print value) (finished s i l.cpu 0) mode.Running l.blocks lt refl (completes s i l _ _ _ _ l.blocks may asks, λ b. refl)
-instructs s i l next.Step is h lt may well asks = instruction s i l act.Step (finished s i l.cpu 0) mode.Running l.blocks lt refl (completes s i l _ _ _ _ l.blocks may asks, λ b. refl)
+    loads s i l address (permits (tag_here s l.blocks address) false) is h lt may
+    (asks ∙ ap (next.Access false address) well.1) refl
+instructs s i l (next.Access true address value) is h lt may well asks =
+    stores s i l address value (permits (tag_here s l.blocks address) true) is h lt may asks refl
+instructs s i l (next.Faa address added) is h lt may well asks =
+    adds s i l address added (permits (tag_here s l.blocks address) true) is h lt may asks refl
+instructs s i l (next.Trap why) is h lt may well asks = instruction s i l (act.Trapped why) l.cpu
+    (mode.Trapped why) l.blocks lt refl (completes s i l _ _ _ _ l.blocks may asks, λ b. refl)
+instructs s i l next.Halt is h lt may well asks = instruction s i l act.Halt l.cpu mode.Halted l.blocks lt refl
+    (completes s i l _ _ _ _ l.blocks may asks, λ b. refl)
+instructs s i l (next.Print value) is h lt may well asks = instruction s i l (act.Print value)
+    (finished s i l.cpu 0) mode.Running l.blocks lt refl (completes s i l _ _ _ _ l.blocks may asks, λ b. refl)
+instructs s i l next.Step is h lt may well asks = instruction s i l act.Step
+    (finished s i l.cpu 0) mode.Running l.blocks lt refl (completes s i l _ _ _ _ l.blocks may asks, λ b. refl)
 
 -- ---- messages
 
-redelivers : (s : Setup) (i : ℕ) (l : Local) → IsSetup s → IsNodeOf s i l → i < s.shape.nodes → MayRedeliver s l → MakesHere s i l None (event.Redeliver i)
+redelivers : (s : Setup) (i : ℕ) (l : Local) → IsSetup s → IsNodeOf s i l → i < s.shape.nodes → MayRedeliver s l →
+    MakesHere s i l None (event.Redeliver i)
 redelivers s i l is h lt may =
     let m : Message = may.message in
     let parts = first_waits s i m may.earlier may.later l.deferred may.takes h.deferred in
@@ -200,7 +240,13 @@ redelivers s i l is h lt may =
     let does = meaning s i rest m is (record { blocks = h.blocks; deferred = parts.1 }) parts.0.block in
     let sends : List Message = outgoing s.protocol i m.block (l.clock + 1) does.0.sends in
     record {
-      entry = record { stamp = l.clock + 1; node = i; act = act.Redelivered m.kind m.block m.from; sends = length sends; after = Some (after_of m.block does.0) };
+      entry = record {
+        stamp = l.clock + 1;
+        node = i;
+        act = act.Redelivered m.kind m.block m.from;
+        sends = length sends;
+        after = Some (after_of m.block does.0);
+      };
       after = handled m rest does.0 (l.clock + 1) l.instructions (l.handled + 1) sends;
       sends = sends;
       tells = refl;
@@ -226,7 +272,8 @@ redelivers s i l is h lt may =
       };
     }
 
-delivers : (s : Setup) (i from : ℕ) (chan : Chan) (l : Local) (wire : List Message) → IsSetup s → IsNodeOf s i l → i < s.shape.nodes → from < s.shape.nodes → (may : MayDeliver s l wire) → IsDeferredAt s i may.message
+delivers : (s : Setup) (i from : ℕ) (chan : Chan) (l : Local) (wire : List Message) → IsSetup s → IsNodeOf s i l →
+    i < s.shape.nodes → from < s.shape.nodes → (may : MayDeliver s l wire) → IsDeferredAt s i may.message
     → MakesHere s i l (Some may.message) (event.Deliver i from chan)
 delivers s i from chan l wire is h lt from_lt may came =
     let m : Message = may.message in
@@ -234,7 +281,13 @@ delivers s i from chan l wire is h lt from_lt may came =
     let does = meaning s i l m is h came.block in
     let sends : List Message = outgoing s.protocol i m.block stamp does.0.sends in
     record {
-      entry = record { stamp = stamp; node = i; act = act.Delivered m.kind m.block from chan m.number; sends = length sends; after = Some (after_of m.block does.0) };
+      entry = record {
+        stamp = stamp;
+        node = i;
+        act = act.Delivered m.kind m.block from chan m.number;
+        sends = length sends;
+        after = Some (after_of m.block does.0);
+      };
       after = handled m l does.0 stamp l.instructions (l.handled + 1) sends;
       sends = sends;
       tells = refl;
@@ -266,17 +319,24 @@ no_front_taken : (b : Bool) → (if b then option_to_list {X = Message} None els
 no_front_taken true = refl
 no_front_taken false = refl
 
-steps : (s : Setup) (g : World) (i : ℕ) (e : Event) (front : Option Message) (between : Wires) (here : MakesHere s i (g.locals i) front e)
+steps : (s : Setup) (g : World) (i : ℕ) (e : Event) (front : Option Message) (between : Wires)
+    (here : MakesHere s i (g.locals i) front e)
     → ((f t : ℕ) (c : Chan) → g.wires f t c ≡ taken here.entry front f t c ++ between f t c) → Makes s g e
 steps s g i e front between here takes = record {
   entry = entry;
-  after = record { locals = changed g.locals entry.node here.after; wires = λ f t c. between f t c ++ posted (g.next f t c) f t c here.sends; next = λ f t c. g.next f t c + length (filter (on_wire f t c) here.sends) };
+  after = record {
+    locals = changed g.locals entry.node here.after;
+    wires = λ f t c. between f t c ++ posted (g.next f t c) f t c here.sends;
+    next =
+        λ f t c. g.next f t c + length (filter (on_wire f t c) here.sends);
+  };
   tells = here.tells;
   step = record {
     front = front;
     sends = here.sends;
     between = between;
-    local = subst (λ (x : Local). LocalStep s entry.node (g.locals entry.node) front x entry here.sends) (sym (changed_here g.locals entry.node here.after))
+    local = subst (λ (x : Local). LocalStep s entry.node (g.locals entry.node) front x entry here.sends)
+        (sym (changed_here g.locals entry.node here.after))
         (subst (λ n. LocalStep s n (g.locals n) front here.after entry here.sends) (sym here.step.node) here.step);
     others = λ k d. changed_other g.locals entry.node here.after k d;
     takes = takes;
@@ -289,13 +349,16 @@ steps s g i e front between here takes = record {
     entry = here.entry
 
 quiet_steps : (s : Setup) (g : World) (i : ℕ) (e : Event) → MakesHere s i (g.locals i) None e → Makes s g e
-quiet_steps s g i e here = steps s g i e None g.wires here (λ f t c. ap (λ (ms : List Message). ms ++ g.wires f t c) (sym (no_front_taken (nat_eq t here.entry.node && takes_from here.entry.act f c))))
+quiet_steps s g i e here =
+    steps s g i e None g.wires here (λ f t c. ap (λ (ms : List Message). ms ++ g.wires f t c)
+    (sym (no_front_taken (nat_eq t here.entry.node && takes_from here.entry.act f c))))
 
 -- the wires without the front of one
 abbrev is_wire : ℕ → ℕ → Chan → ℕ → ℕ → Chan → Bool
 is_wire from i chan f t c = nat_eq t i && (nat_eq f from && chan_eq c chan)
 
-front_taken : (g : World) (from i : ℕ) (chan : Chan) (m : Message) (rest : List Message) → g.wires from i chan ≡ m ∷ rest → (f t : ℕ) (c : Chan) (b : Bool) → is_wire from i chan f t c ≡ b
+front_taken : (g : World) (from i : ℕ) (chan : Chan) (m : Message) (rest : List Message) → g.wires from i chan ≡ m ∷ rest →
+    (f t : ℕ) (c : Chan) (b : Bool) → is_wire from i chan f t c ≡ b
     → g.wires f t c ≡ (if b then m ∷ [] else []) ++ (if b then rest else g.wires f t c)
 front_taken g from i chan m rest at f t c false is = refl
 front_taken g from i chan m rest at f t c true is =
@@ -308,11 +371,15 @@ front_taken g from i chan m rest at f t c true is =
 pub enabled_step : EnabledEventsStep
 unfolding delivers
 enabled_step s g (event.Instr i) is h e =
-    quiet_steps s g i (event.Instr i) (instructs s i (g.locals i) (asked s i (g.locals i).cpu) is (h.nodes i) e.0 e.1 (asked_well s i (g.locals i).cpu (asked s i (g.locals i).cpu) refl) refl)
-enabled_step s g (event.Redeliver i) is h e = quiet_steps s g i (event.Redeliver i) (redelivers s i (g.locals i) is (h.nodes i) e.0 e.1)
+    quiet_steps s g i (event.Instr i) (instructs s i (g.locals i) (asked s i (g.locals i).cpu) is (h.nodes i) e.0 e.1
+    (asked_well s i (g.locals i).cpu (asked s i (g.locals i).cpu) refl) refl)
+enabled_step s g (event.Redeliver i) is h e = quiet_steps s g i (event.Redeliver i)
+    (redelivers s i (g.locals i) is (h.nodes i) e.0 e.1)
 enabled_step s g (event.Deliver i from chan) is h e =
     let may : MayDeliver s (g.locals i) (g.wires from i chan) = e.2 in
-    let came : IsDeferredAt s i may.message = arrived s from i may.message (subst (λ (ms : List Message). Each (IsOnTheWay s from i) ms) may.front (h.wires from i chan)).0 in
-    steps s g i (event.Deliver i from chan) (Some may.message) (λ f t c. if is_wire from i chan f t c then may.rest else g.wires f t c)
+    let came : IsDeferredAt s i may.message = arrived s from i may.message
+    (subst (λ (ms : List Message). Each (IsOnTheWay s from i) ms) may.front (h.wires from i chan)).0 in
+    steps s g i (event.Deliver i from chan) (Some may.message)
+    (λ f t c. if is_wire from i chan f t c then may.rest else g.wires f t c)
     (delivers s i from chan (g.locals i) (g.wires from i chan) is (h.nodes i) e.0 e.1 may came)
     (λ f t c. front_taken g from i chan may.message may.rest may.front f t c (is_wire from i chan f t c) refl)

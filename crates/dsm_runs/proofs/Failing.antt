@@ -33,9 +33,11 @@ none_here s g i act.Step over h = over.no_instruction h
 none_here s g i (act.Fault store block) over h = over.no_instruction h
 
 -- an event is one of another node
-elsewhere : (s : Setup) (g : World) (e : Entry) (mid : World) (i : ℕ) (why : End) → (g.locals i).failed ≡ Some why → Step s g e mid → mid.locals i ≡ g.locals i
+elsewhere : (s : Setup) (g : World) (e : Entry) (mid : World) (i : ℕ) (why : End) → (g.locals i).failed ≡ Some why →
+    Step s g e mid → mid.locals i ≡ g.locals i
 elsewhere s g e mid i why failed r = elim (cases_eq i e.node) [
-  | inl same ↦ absurd (none_here s g e.node e.act (subst (λ k. IsOver s g k) same (nodes_over s g i why failed)) (step_enabled s g e mid r))
+  | inl same ↦ absurd (none_here s g e.node e.act (subst (λ k. IsOver s g k) same (nodes_over s g i why failed))
+      (step_enabled s g e mid r))
   | inr other ↦ r.others i other
 ]
 

@@ -5,7 +5,8 @@ use Rattle.dsm_runs.specs.Setups.{Setup}
 use Rattle.dsm_runs.specs.Worlds.{World, Runs}
 use Rattle.dsm_runs.specs.Replays.{Course, ReplaysOne, ReplaysOn}
 
-pub log_goes_on : (s : Setup) (i : ℕ) (es : List Entry) (a b d : Course) (e : Entry) → ReplaysOn s i a es b → ReplaysOne s i b e d → ReplaysOn s i a (es ++ e ∷ []) d
+pub log_goes_on : (s : Setup) (i : ℕ) (es : List Entry) (a b d : Course) (e : Entry) → ReplaysOn s i a es b →
+    ReplaysOne s i b e d → ReplaysOn s i a (es ++ e ∷ []) d
 log_goes_on s i [] a b d e r q = (d, subst (λ (x : Course). ReplaysOne s i x e d) (sym r) q, refl)
 log_goes_on s i (x ∷ xs) a b d e r q = (r.0, r.1, log_goes_on s i xs r.0 b d e r.2 q)
 

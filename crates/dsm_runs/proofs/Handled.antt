@@ -16,7 +16,8 @@ use Rattle.teapot_meaning.specs.Does.{Does}
 use Rattle.teapot_meaning.specs.Goes.{Goes, ends, goes_on}
 use Rattle.teapot_meaning.specs.Layers.{Layer, what_of}
 use Rattle.teapot_meaning.specs.Names.{info_number}
-use Rattle.teapot_meaning.specs.Steps.{assigned, assigned_at, ended, least_of, led_to, moved, next_of, out_to, place_of, resumes, sent, sent_all, suspended, suspends, tagged, turned, turns}
+use Rattle.teapot_meaning.specs.Steps.{assigned, assigned_at, ended, least_of, led_to, moved, next_of, out_to, place_of}
+use Rattle.teapot_meaning.specs.Steps.{resumes, sent, sent_all, suspended, suspends, tagged, turned, turns}
 use Rattle.teapot_meaning.specs.declared.state.Cont.{Cont}
 use Rattle.teapot_meaning.specs.declared.state.Ended.{Ended}
 use Rattle.teapot_meaning.specs.declared.state.Here.{Here}
@@ -50,7 +51,8 @@ module _ (p : Protocol) (me home block : ℕ) where
   unfolding ended
   end_leaves r end h = record { me = h.me; home = h.home; block = h.block; sends = h.sends }
 
-  assigned_leaves : (r : Running) (name : Name) (value : Value) (var info : Option ℕ) → LeavesAt r → LeavesAt (assigned_at r name value var info)
+  assigned_leaves : (r : Running) (name : Name) (value : Value) (var info : Option ℕ) → LeavesAt r →
+      LeavesAt (assigned_at r name value var info)
   assigned_leaves r name value (Some i) info h = record { me = h.me; home = h.home; block = h.block; sends = h.sends }
   assigned_leaves r name value None (Some i) h = record { me = h.me; home = h.home; block = h.block; sends = h.sends }
   assigned_leaves r name value None None h = h
@@ -59,25 +61,40 @@ module _ (p : Protocol) (me home block : ℕ) where
   unfolding assigned
   assign_leaves r name value h = assigned_leaves r name value (place_of name r.vars) (info_number p name) h
 
-  outs_named : (number : ℕ) (args : List Value) (payload : Option Data) (nodes : List ℕ) → Each IsNoFault (map (out_to number args payload) nodes)
+  outs_named : (number : ℕ) (args : List Value) (payload : Option Data) (nodes : List ℕ) →
+      Each IsNoFault (map (out_to number args payload) nodes)
   outs_named number args payload [] = tt
   outs_named number args payload (n ∷ nodes) = (refl, outs_named number args payload nodes)
 
   send_leaves : (r : Running) (to : Value) (number : ℕ) (args : List Value) → LeavesAt r → LeavesAt (sent p r to number args)
   unfolding sent
-  send_leaves r to number args h = record { me = h.me; home = h.home; block = h.block; sends = Each-append IsNoFault r.sends _ h.sends (refl, tt) }
+  send_leaves r to number args h = record {
+    me = h.me;
+    home = h.home;
+    block = h.block;
+    sends = Each-append IsNoFault r.sends _ h.sends (refl, tt);
+  }
 
-  send_all_leaves : (r : Running) (to : Value) (number : ℕ) (args : List Value) → LeavesAt r → LeavesAt (sent_all p r to number args)
+  send_all_leaves : (r : Running) (to : Value) (number : ℕ) (args : List Value) → LeavesAt r →
+      LeavesAt (sent_all p r to number args)
   unfolding sent_all
-  send_all_leaves r to number args h = record { me = h.me; home = h.home; block = h.block; sends = Each-append IsNoFault r.sends _ h.sends (outs_named number args _ _) }
+  send_all_leaves r to number args h = record {
+    me = h.me;
+    home = h.home;
+    block = h.block;
+    sends = Each-append IsNoFault r.sends _ h.sends (outs_named number args _ _);
+  }
 
-  turn_leaves : (x : Name) (set : List Bool) (o : Option ℕ) (body rest : List Stmt) (r : Running) → LeavesAt r → Leads (turned p x set o body rest r)
+  turn_leaves : (x : Name) (set : List Bool) (o : Option ℕ) (body rest : List Stmt) (r : Running) → LeavesAt r →
+      Leads (turned p x set o body rest r)
   turn_leaves x set None body rest r h = h
   turn_leaves x set (Some n) body rest r h = assign_leaves r x _ h
 
-  suspend_leaves : (r : Running) (state : ℕ) (args : List Value) (rest : List Stmt) (b : Bool) → LeavesAt r → Leads (if b then Over (ended r TooDeep) else Over (ended (suspended r state args rest) Fine))
+  suspend_leaves : (r : Running) (state : ℕ) (args : List Value) (rest : List Stmt) (b : Bool) → LeavesAt r →
+      Leads (if b then Over (ended r TooDeep) else Over (ended (suspended r state args rest) Fine))
   suspend_leaves r state args rest true h = end_leaves r TooDeep h
-  suspend_leaves r state args rest false h = end_leaves (suspended r state args rest) Fine (record { me = h.me; home = h.home; block = h.block; sends = h.sends })
+  suspend_leaves r state args rest false h = end_leaves (suspended r state args rest) Fine
+      (record { me = h.me; home = h.home; block = h.block; sends = h.sends })
 
   resume_leaves : (r : Running) (o : Option Cont) → LeavesAt r → Leads (resumes r o)
   unfolding resumes
@@ -105,9 +122,12 @@ module _ (p : Protocol) (me home block : ℕ) where
   next_leaves [] r h = end_leaves r Fine h
   next_leaves (s ∷ rest) r h = one_leaves (what_of s) rest r h
 
-  goes_leaves : {stmts : List Stmt} {r : Running} {e : Ended} → Goes p stmts r e → LeavesAt r → Leaves me home block e.here e.sends
+  goes_leaves : {stmts : List Stmt} {r : Running} {e : Ended} → Goes p stmts r e → LeavesAt r →
+      Leaves me home block e.here e.sends
   goes_leaves {stmts = stmts} {r = r} (ends {e = e} is) h = subst Leads is (next_leaves stmts r h)
   goes_leaves {stmts = stmts} {r = r} (goes_on is more) h = goes_leaves more (subst Leads is (next_leaves stmts r h))
 
-pub does_leave : (p : Protocol) (here : Here) (m : Message) (e : Ended) → Does p here m e → Leaves here.me here.home here.block e.here e.sends
-does_leave p here m e d = goes_leaves p here.me here.home here.block d.goes (record { me = refl; home = refl; block = refl; sends = tt })
+pub does_leave : (p : Protocol) (here : Here) (m : Message) (e : Ended) → Does p here m e →
+    Leaves here.me here.home here.block e.here e.sends
+does_leave p here m e d = goes_leaves p here.me here.home here.block d.goes
+    (record { me = refl; home = refl; block = refl; sends = tt })

@@ -1,5 +1,6 @@
 -- Facts of each element, numbers, and tests on wires.
-use Rattle.std.proofs.Common.{◌≡◌, ℕ, suc, ◌+◌, Bool, true, false, ◌&&◌, nat_eq, if◌then◌else◌, length, List, [], ◌∷◌, ◌++◌, arith, refl, ap, ◌∙◌, eq-eqb}
+use Rattle.std.proofs.Common.{◌≡◌, ℕ, suc, ◌+◌, Bool, true, false, ◌&&◌, nat_eq, if◌then◌else◌, length, List, [], ◌∷◌, ◌++◌}
+use Rattle.std.proofs.Common.{arith, refl, ap, ◌∙◌, eq-eqb}
 use Rattle.std.specs.List.{filter}
 use Rattle.tw_base.specs.declared.message.Chan.{Chan}
 use Rattle.tw_base.specs.declared.message.Chan.TheVariants.{Zero, One}
@@ -15,7 +16,8 @@ pub Each-implied : {A : Type 0} (P Q : A → Type 0) (xs : List A) → ((x : A) 
 Each-implied P Q [] f h = tt
 Each-implied P Q (x ∷ xs) f h = (f x h.0, Each-implied P Q xs f h.1)
 
-pub Each-if : {A : Type 0} (P : A → Type 0) (p : A → Bool) (x : A) (xs : List A) (b : Bool) → P x → Each P (filter p xs) → Each P (if b then x ∷ filter p xs else filter p xs)
+pub Each-if : {A : Type 0} (P : A → Type 0) (p : A → Bool) (x : A) (xs : List A) (b : Bool) → P x → Each P (filter p xs) →
+    Each P (if b then x ∷ filter p xs else filter p xs)
 Each-if P p x xs true h k = (h, k)
 Each-if P p x xs false h k = k
 
@@ -48,7 +50,8 @@ pub numbered-append : (k : ℕ) (xs ys : List Message) → numbered k (xs ++ ys)
 numbered-append k [] ys = ap (λ j. numbered j ys) (omega arith)
 numbered-append k (x ∷ xs) ys =
     let shift : suc k + length xs ≡ k + suc (length xs) = omega arith in
-    ap (λ (l : List Message). record x { number = k } ∷ l) (numbered-append (suc k) xs ys ∙ ap (λ j. numbered (suc k) xs ++ numbered j ys) shift)
+    ap (λ (l : List Message). record x { number = k } ∷ l) (numbered-append (suc k) xs ys
+    ∙ ap (λ j. numbered (suc k) xs ++ numbered j ys) shift)
 
 pub numbered-numbered : (j k : ℕ) (xs : List Message) → numbered k (numbered j xs) ≡ numbered k xs
 numbered-numbered j k [] = refl
@@ -59,6 +62,7 @@ length-numbered k [] = refl
 length-numbered k (x ∷ xs) = ap suc (length-numbered (suc k) xs)
 
 -- a fact that no number bears on
-pub Each-numbered : (P : Message → Type 0) → ((m : Message) (k : ℕ) → P m → P (record m { number = k })) → (k : ℕ) (ms : List Message) → Each P ms → Each P (numbered k ms)
+pub Each-numbered : (P : Message → Type 0) → ((m : Message) (k : ℕ) → P m → P (record m { number = k })) →
+    (k : ℕ) (ms : List Message) → Each P ms → Each P (numbered k ms)
 Each-numbered P f k [] h = tt
 Each-numbered P f k (m ∷ ms) h = (f m k h.0, Each-numbered P f (suc k) ms h.1)

@@ -15,7 +15,8 @@ use Rattle.teapot_tree.specs.declared.protocol.State.{State}
 use Rattle.teapot_tree.specs.declared.stmt.Stmt.{Stmt}
 
 -- where one next is named twice
-carried : (p : Protocol) (a b : List Stmt) (q r : Running) (n : Next) (e : Ended) → n ≡ On a q → n ≡ On b r → Goes p b r e → Goes p a q e
+carried : (p : Protocol) (a b : List Stmt) (q r : Running) (n : Next) (e : Ended) → n ≡ On a q → n ≡ On b r → Goes p b r e →
+    Goes p a q e
 carried p a b q r n e h k g =
     let same_list : b ≡ a = cc in
     let same_run : r ≡ q = cc in
@@ -36,8 +37,11 @@ one_handler a b e = cc
 pub one_end : (p : Protocol) (here : Here) (m : Message) (x y : Ended) → Does p here m x → Does p here m y → x ≡ y
 one_end p here m x y a b =
     let state : a.state ≡ b.state = one_state a.state b.state (sym a.is_state ∙ b.is_state) in
-    let found : handler_in p m.kind a.state ≡ Some b.handler = subst (λ (s : State). handler_in p m.kind s ≡ Some b.handler) (sym state) b.is_handler in
+    let found : handler_in p m.kind a.state ≡ Some b.handler =
+    subst (λ (s : State). handler_in p m.kind s ≡ Some b.handler) (sym state) b.is_handler in
     let handler : a.handler ≡ b.handler = one_handler a.handler b.handler (sym a.is_handler ∙ found) in
-    let from_state : Goes p b.handler.body (started a.state b.handler here m) y = subst (λ (s : State). Goes p b.handler.body (started s b.handler here m) y) (sym state) b.goes in
-    let goes : Goes p a.handler.body (started a.state a.handler here m) y = subst (λ (h : Handler). Goes p h.body (started a.state h here m) y) (sym handler) from_state in
+    let from_state : Goes p b.handler.body (started a.state b.handler here m) y =
+    subst (λ (s : State). Goes p b.handler.body (started s b.handler here m) y) (sym state) b.goes in
+    let goes : Goes p a.handler.body (started a.state a.handler here m) y =
+    subst (λ (h : Handler). Goes p h.body (started a.state h here m) y) (sym handler) from_state in
     sym (same_end p a.goes goes)

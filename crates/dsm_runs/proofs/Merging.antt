@@ -1,5 +1,6 @@
 -- An entry of one log, as a step of all nodes and wires: what it takes is there.
-use Rattle.std.proofs.Common.{◌≡◌, ◌≢◌, ℕ, ◌+◌, ◌≤◌, length, length-append, List, ◌∷◌, ◌++◌, arith, refl, ap, sym, ◌∙◌, append_assoc, inl, inr}
+use Rattle.std.proofs.Common.{◌≡◌, ◌≢◌, ℕ, ◌+◌, ◌≤◌, length, length-append, List, ◌∷◌, ◌++◌, arith, refl, ap, sym, ◌∙◌}
+use Rattle.std.proofs.Common.{append_assoc, inl, inr}
 use Rattle.std.proofs.lemmas.List.{append_cancel_left}
 use Rattle.std.specs.List.{filter}
 use Rattle.tw_base.specs.declared.message.Chan.{Chan}
@@ -25,19 +26,25 @@ before_at : (a b : Entry) → Before a b → a.stamp ≤ b.stamp
 before_at a b (inl h) = omega arith
 before_at a b (inr h) = omega arith
 
-pub not_earlier : (e : Entry) (es : List Entry) (k : ℕ) → IsSorted (e ∷ es) → Each (NotEarlier e.stamp) (filter (is_of k) (e ∷ es))
-not_earlier e es k h = Each-filter (NotEarlier e.stamp) (is_of k) (e ∷ es) (omega arith, Each-implied (Before e) (NotEarlier e.stamp) es (λ b q. before_at e b q) h.0)
+pub not_earlier : (e : Entry) (es : List Entry) (k : ℕ) → IsSorted (e ∷ es) →
+    Each (NotEarlier e.stamp) (filter (is_of k) (e ∷ es))
+not_earlier e es k h = Each-filter (NotEarlier e.stamp) (is_of k) (e ∷ es)
+    (omega arith, Each-implied (Before e) (NotEarlier e.stamp) es (λ b q. before_at e b q) h.0)
 
-pub same_end : (a b : ℕ → Course) (w left : Wires) → ((i : ℕ) → a i ≡ b i) → AgreesAll a w → AgreesAll b left → joined a w ≡ joined b left
+pub same_end : (a b : ℕ → Course) (w left : Wires) → ((i : ℕ) → a i ≡ b i) → AgreesAll a w → AgreesAll b left →
+    joined a w ≡ joined b left
 same_end a b w left p before after = λ j. joined (λ i. p i j) (λ f t c. same_wire f t c j)
   where
     same_wire : (f t : ℕ) (c : Chan) → w f t c ≡ left f t c
     same_wire f t c = append_cancel_left ((b t).took f c) (w f t c) (left f t c)
-        (ap (λ (x : Course). x.took f c ++ w f t c) (sym (p t)) ∙ sym (before f t c) ∙ ap (λ (x : Course). x.sent t c) (p f) ∙ after f t c)
+        (ap (λ (x : Course). x.took f c ++ w f t c) (sym (p t)) ∙ sym (before f t c) ∙ ap (λ (x : Course). x.sent t c) (p f)
+        ∙ after f t c)
 
 -- what the event of an entry takes is on the wires
-pub front_is_there : (s : Setup) (e : Entry) (a b : ℕ → Course) (w left : Wires) (mine rest : List Entry) (f t : ℕ) (c : Chan) (a2 : ℕ → Course) (r : Turn s e a a2)
-    → ReplaysOn s f (a f) mine (b f) → Each (NotEarlier e.stamp) mine → ReplaysOn s t (a2 t) rest (b t) → AgreesAll a w → AgreesAll b left
+pub front_is_there : (s : Setup) (e : Entry) (a b : ℕ → Course) (w left : Wires) (mine rest : List Entry) (f t : ℕ) (c : Chan)
+    (a2 : ℕ → Course) (r : Turn s e a a2)
+    → ReplaysOn s f (a f) mine (b f) → Each (NotEarlier e.stamp) mine → ReplaysOn s t (a2 t) rest (b t) → AgreesAll a w →
+    AgreesAll b left
     → (more : List Message) × (w f t c ≡ taken e r.front f t c ++ more)
 front_is_there s e a b w left mine rest f t c a2 r sender late receiver before after =
     let sends = sends_later s f e.stamp mine (a f) (b f) t c sender late in
@@ -56,7 +63,8 @@ front_is_there s e a b w left mine rest f t c a2 r sender late receiver before a
     (taken_early s e (a e.node).local (a2 e.node).local r.front r.sends f t c r.local)
 
 -- the turn is a step from the nodes and wires before to those after
-pub turn_steps : (s : Setup) (e : Entry) (a a2 : ℕ → Course) (w between : Wires) (r : Turn s e a a2) → ((f t : ℕ) (c : Chan) → w f t c ≡ taken e r.front f t c ++ between f t c)
+pub turn_steps : (s : Setup) (e : Entry) (a a2 : ℕ → Course) (w between : Wires) (r : Turn s e a a2) →
+    ((f t : ℕ) (c : Chan) → w f t c ≡ taken e r.front f t c ++ between f t c)
     → Step s (joined a w) e (joined a2 (λ f t c. between f t c ++ posted (length ((a f).sent t c)) f t c r.sends))
 turn_steps s e a a2 w between r takes = record {
   front = r.front;
@@ -66,21 +74,26 @@ turn_steps s e a a2 w between r takes = record {
   others = λ k d. ap (λ (x : Course). x.local) (r.others k d);
   takes = takes;
   wires = λ f t c. refl;
-  next = λ f t c. ap length (r.sent f t c) ∙ length-append ((a f).sent t c) (posted (length ((a f).sent t c)) f t c r.sends) ∙ ap (λ n. length ((a f).sent t c) + n) (length-numbered (length ((a f).sent t c)) (filter (on_wire f t c) r.sends));
+  next = λ f t c. ap length (r.sent f t c) ∙ length-append ((a f).sent t c) (posted (length ((a f).sent t c)) f t c r.sends)
+      ∙ ap (λ n. length ((a f).sent t c) + n) (length-numbered (length ((a f).sent t c)) (filter (on_wire f t c) r.sends));
 }
 
-pub steps_front : (s : Setup) (e : Entry) (a a2 : ℕ → Course) (w between : Wires) (r : Turn s e a a2) (takes : (f t : ℕ) (c : Chan) → w f t c ≡ taken e r.front f t c ++ between f t c) → (turn_steps s e a a2 w between r takes).front ≡ r.front
+pub steps_front : (s : Setup) (e : Entry) (a a2 : ℕ → Course) (w between : Wires) (r : Turn s e a a2)
+    (takes : (f t : ℕ) (c : Chan) → w f t c ≡ taken e r.front f t c ++ between f t c) →
+    (turn_steps s e a a2 w between r takes).front ≡ r.front
 unfolding turn_steps
 steps_front s e a a2 w between r takes = refl
 
-pub turn_agrees : (s : Setup) (e : Entry) (a a2 : ℕ → Course) (w between : Wires) (r : Turn s e a a2) → ((f t : ℕ) (c : Chan) → w f t c ≡ taken e r.front f t c ++ between f t c) → AgreesAll a w
+pub turn_agrees : (s : Setup) (e : Entry) (a a2 : ℕ → Course) (w between : Wires) (r : Turn s e a a2) →
+    ((f t : ℕ) (c : Chan) → w f t c ≡ taken e r.front f t c ++ between f t c) → AgreesAll a w
     → AgreesAll a2 (λ f t c. between f t c ++ posted (length ((a f).sent t c)) f t c r.sends)
 turn_agrees s e a a2 w between r takes before f t c =
     let put : List Message = posted (length ((a f).sent t c)) f t c r.sends in
     let took : List Message = (a t).took f c in
     let front : List Message = taken e r.front f t c in
     r.sent f t c
-    ∙ ap (λ (x : List Message). x ++ put) (before f t c ∙ ap (λ (x : List Message). took ++ x) (takes f t c) ∙ sym (append_assoc took front (between f t c)))
+    ∙ ap (λ (x : List Message). x ++ put) (before f t c ∙ ap (λ (x : List Message). took ++ x) (takes f t c)
+    ∙ sym (append_assoc took front (between f t c)))
     ∙ append_assoc (took ++ front) (between f t c) put
     ∙ ap (λ (x : List Message). x ++ (between f t c ++ put)) (sym (r.took f t c))
 

@@ -1,5 +1,6 @@
 -- An entry determines what its event leaves.
-use Rattle.std.proofs.Common.{◌≡◌, ℕ, ◌+◌, length, true, ◌&&◌, nat_eq, List, [], ◌∷◌, ◌++◌, Option, Some, refl, ap, sym, ◌∙◌, subst, inl, inr}
+use Rattle.std.proofs.Common.{◌≡◌, ℕ, ◌+◌, length, true, ◌&&◌, nat_eq, List, [], ◌∷◌, ◌++◌, Option, Some, refl, ap, sym, ◌∙◌}
+use Rattle.std.proofs.Common.{subst, inl, inr}
 use Rattle.std.proofs.lemmas.Bool.{cases_eq}
 use Rattle.tw_base.specs.declared.entry.Act.{Act}
 use Rattle.tw_base.specs.declared.entry.Act.TheVariants as act
@@ -32,7 +33,8 @@ pub record SameParts (x y : Local) (sends sends2 : List Message) (after after2 :
   pub sends_same : sends ≡ sends2
   pub after_same : after ≡ after2
 
-same_local : (x y : Local) (sends sends2 : List Message) (after after2 : Option After) → SameParts x y sends sends2 after after2 → x.clock ≡ y.clock → x.sent ≡ y.sent → x ≡ y
+same_local : (x y : Local) (sends sends2 : List Message) (after after2 : Option After) →
+    SameParts x y sends sends2 after after2 → x.clock ≡ y.clock → x.sent ≡ y.sent → x ≡ y
 same_local x y sends sends2 after after2 p clock sent = λ j. record {
   mode = p.mode j;
   failed = p.failed j;
@@ -45,8 +47,10 @@ same_local x y sends sends2 after after2 p clock sent = λ j. record {
   sent = sent j;
 }
 
-completes_same : (s : Setup) (i : ℕ) (l : Local) (front front2 : Option Message) (x y : Local) (e e2 : Entry) (sends sends2 : List Message) (needs : Next) (cpu : Cpu) (mode : Mode)
-    → Completes s i l front x e sends needs cpu mode → Completes s i l front2 y e2 sends2 needs cpu mode → ((b : ℕ) → x.blocks b ≡ y.blocks b) → SameParts x y sends sends2 e.after e2.after
+completes_same : (s : Setup) (i : ℕ) (l : Local) (front front2 : Option Message) (x y : Local) (e e2 : Entry)
+    (sends sends2 : List Message) (needs : Next) (cpu : Cpu) (mode : Mode)
+    → Completes s i l front x e sends needs cpu mode → Completes s i l front2 y e2 sends2 needs cpu mode →
+    ((b : ℕ) → x.blocks b ≡ y.blocks b) → SameParts x y sends sends2 e.after e2.after
 completes_same s i l front front2 x y e e2 sends sends2 needs cpu mode p q blocks = record {
   mode = p.mode ∙ sym q.mode;
   failed = p.failed ∙ sym q.failed;
@@ -59,8 +63,10 @@ completes_same s i l front front2 x y e e2 sends sends2 needs cpu mode p q block
   after_same = p.no_handler ∙ sym q.no_handler;
 }
 
-handles_same : (s : Setup) (i stamp stamp2 : ℕ) (m m2 : Message) (l l2 x y : Local) (sends sends2 : List Message) (after after2 : Option After) → stamp ≡ stamp2 → m ≡ m2 → l ≡ l2
-    → Handles s i stamp m l x sends after → Handles s i stamp2 m2 l2 y sends2 after2 → x.instructions ≡ y.instructions → x.handled ≡ y.handled → SameParts x y sends sends2 after after2
+handles_same : (s : Setup) (i stamp stamp2 : ℕ) (m m2 : Message) (l l2 x y : Local) (sends sends2 : List Message)
+    (after after2 : Option After) → stamp ≡ stamp2 → m ≡ m2 → l ≡ l2
+    → Handles s i stamp m l x sends after → Handles s i stamp2 m2 l2 y sends2 after2 → x.instructions ≡ y.instructions →
+    x.handled ≡ y.handled → SameParts x y sends sends2 after after2
 handles_same s i stamp stamp2 m m2 l l2 x y sends sends2 after after2 at same before p q0 instructions handled = record {
   mode = p.mode ∙ ap (λ (z : Ended). mode_after z.woke m.block l.mode) one ∙ sym q.mode;
   failed = p.failed ∙ ap (λ (z : Ended). failure z.end) one ∙ sym q.failed;
@@ -77,7 +83,9 @@ handles_same s i stamp stamp2 m m2 l l2 x y sends sends2 after after2 at same be
 }
   where
     q : Handles s i stamp m l y sends2 after2
-    q = subst (λ k. Handles s i k m l y sends2 after2) (sym at) (subst (λ (z : Message). Handles s i stamp2 z l y sends2 after2) (sym same) (subst (λ (z : Local). Handles s i stamp2 m2 z y sends2 after2) (sym before) q0))
+    q = subst (λ k. Handles s i k m l y sends2 after2) (sym at)
+        (subst (λ (z : Message). Handles s i stamp2 z l y sends2 after2) (sym same)
+        (subst (λ (z : Local). Handles s i stamp2 m2 z y sends2 after2) (sym before) q0))
 
     one : p.ended ≡ q.ended
     one = one_end s.protocol (l.blocks m.block) m p.ended q.ended p.does q.does
@@ -92,7 +100,8 @@ abbrev eligible : Message → Waiting
 eligible m = record { message = m; eligible = true }
 
 -- a list has one first eligible message
-pub first_one : (m m2 : Message) (xs ys xs2 ys2 whole : List Waiting) → whole ≡ xs ++ record { message = m; eligible = true } ∷ ys → whole ≡ xs2 ++ record { message = m2; eligible = true } ∷ ys2
+pub first_one : (m m2 : Message) (xs ys xs2 ys2 whole : List Waiting) →
+    whole ≡ xs ++ record { message = m; eligible = true } ∷ ys → whole ≡ xs2 ++ record { message = m2; eligible = true } ∷ ys2
     → Each IsStale xs → Each IsStale xs2 → (m ≡ m2) × (xs ++ ys ≡ xs2 ++ ys2)
 first_one m m2 [] ys [] ys2 whole p q h k =
     let head : eligible m ≡ eligible m2 = waiting_head _ _ _ _ (sym p ∙ q) in
@@ -110,53 +119,75 @@ first_one m m2 (x ∷ xs) ys (y ∷ xs2) ys2 whole p q h k =
     let head : x ≡ y = waiting_head _ _ _ _ (sym p ∙ q) in
     (rest.0, ap (λ (z : Waiting). z ∷ (xs ++ ys)) head ∙ ap (λ (l : List Waiting). y ∷ l) rest.1)
 
-pub acts_same : (s : Setup) (i : ℕ) (l : Local) (front front2 : Option Message) (x y : Local) (e e2 : Entry) (sends sends2 : List Message) (a : Act) → e.stamp ≡ e2.stamp → front ≡ front2
+pub acts_same : (s : Setup) (i : ℕ) (l : Local) (front front2 : Option Message) (x y : Local) (e e2 : Entry)
+    (sends sends2 : List Message) (a : Act) → e.stamp ≡ e2.stamp → front ≡ front2
     → Acts s i l front x e sends a → Acts s i l front2 y e2 sends2 a → SameParts x y sends sends2 e.after e2.after
-acts_same s i l front front2 x y e e2 sends sends2 (act.Load address value) at f p q = completes_same s i l front front2 x y e e2 sends sends2 _ _ _ p.0 q.0 (λ b. p.1.blocks b ∙ sym (q.1.blocks b))
-acts_same s i l front front2 x y e e2 sends sends2 (act.Store address value) at f p q = completes_same s i l front front2 x y e e2 sends sends2 _ _ _ p.0 q.0 (λ b. elim (cases_eq b (block_of s address)) [
-  | inl k ↦ rw k (p.1.block ∙ sym q.1.block)
-  | inr d ↦ p.1.others b d ∙ sym (q.1.others b d)
-])
-acts_same s i l front front2 x y e e2 sends sends2 (act.Faa address value sum) at f p q = completes_same s i l front front2 x y e e2 sends sends2 _ _ _ p.0 q.0 (λ b. elim (cases_eq b (block_of s address)) [
-  | inl k ↦ rw k (p.1.stores.block ∙ sym q.1.stores.block)
-  | inr d ↦ p.1.stores.others b d ∙ sym (q.1.stores.others b d)
-])
-acts_same s i l front front2 x y e e2 sends sends2 (act.Print value) at f p q = completes_same s i l front front2 x y e e2 sends sends2 _ _ _ p.0 q.0 (λ b. p.1 b ∙ sym (q.1 b))
-acts_same s i l front front2 x y e e2 sends sends2 act.Halt at f p q = completes_same s i l front front2 x y e e2 sends sends2 _ _ _ p.0 q.0 (λ b. p.1 b ∙ sym (q.1 b))
-acts_same s i l front front2 x y e e2 sends sends2 (act.Trapped why) at f p q = completes_same s i l front front2 x y e e2 sends sends2 _ _ _ p.0 q.0 (λ b. p.1 b ∙ sym (q.1 b))
-acts_same s i l front front2 x y e e2 sends sends2 act.Step at f p q = completes_same s i l front front2 x y e e2 sends sends2 _ _ _ p.0 q.0 (λ b. p.1 b ∙ sym (q.1 b))
+acts_same s i l front front2 x y e e2 sends sends2 (act.Load address value) at f p q =
+    completes_same s i l front front2 x y e e2 sends sends2 _ _ _ p.0 q.0 (λ b. p.1.blocks b ∙ sym (q.1.blocks b))
+acts_same s i l front front2 x y e e2 sends sends2 (act.Store address value) at f p q =
+    completes_same s i l front front2 x y e e2 sends sends2 _ _ _ p.0 q.0 (λ b. elim (cases_eq b (block_of s address)) [
+      | inl k ↦ rw k (p.1.block ∙ sym q.1.block)
+      | inr d ↦ p.1.others b d ∙ sym (q.1.others b d)
+    ])
+acts_same s i l front front2 x y e e2 sends sends2 (act.Faa address value sum) at f p q =
+    completes_same s i l front front2 x y e e2 sends sends2 _ _ _ p.0 q.0 (λ b. elim (cases_eq b (block_of s address)) [
+      | inl k ↦ rw k (p.1.stores.block ∙ sym q.1.stores.block)
+      | inr d ↦ p.1.stores.others b d ∙ sym (q.1.stores.others b d)
+    ])
+acts_same s i l front front2 x y e e2 sends sends2 (act.Print value) at f p q =
+    completes_same s i l front front2 x y e e2 sends sends2 _ _ _ p.0 q.0 (λ b. p.1 b ∙ sym (q.1 b))
+acts_same s i l front front2 x y e e2 sends sends2 act.Halt at f p q =
+    completes_same s i l front front2 x y e e2 sends sends2 _ _ _ p.0 q.0 (λ b. p.1 b ∙ sym (q.1 b))
+acts_same s i l front front2 x y e e2 sends sends2 (act.Trapped why) at f p q =
+    completes_same s i l front front2 x y e e2 sends sends2 _ _ _ p.0 q.0 (λ b. p.1 b ∙ sym (q.1 b))
+acts_same s i l front front2 x y e e2 sends sends2 act.Step at f p q =
+    completes_same s i l front front2 x y e e2 sends sends2 _ _ _ p.0 q.0 (λ b. p.1 b ∙ sym (q.1 b))
 acts_same s i l front front2 x y e e2 sends sends2 (act.Fault store block) at f p q =
-    handles_same s i e.stamp e2.stamp _ _ _ _ x y sends sends2 e.after e2.after at refl refl p.handles q.handles (p.instructs.instructions ∙ sym q.instructs.instructions) (p.instructs.handled ∙ sym q.instructs.handled)
+    handles_same s i e.stamp e2.stamp _ _ _ _ x y sends sends2 e.after e2.after at refl refl p.handles q.handles
+    (p.instructs.instructions ∙ sym q.instructs.instructions) (p.instructs.handled ∙ sym q.instructs.handled)
 acts_same s i l front front2 x y e e2 sends sends2 (act.Redelivered kind block from) at f p q =
-    let one = first_one p.message q.message p.earlier p.later q.earlier q.later l.deferred p.takes.found q.takes.found p.takes.stale q.takes.stale in
-    handles_same s i e.stamp e2.stamp p.message q.message (record l { deferred = p.earlier ++ p.later }) (record l { deferred = q.earlier ++ q.later }) x y sends sends2 e.after e2.after at
-    one.0 (ap (λ (ws : List Waiting). record l { deferred = ws }) one.1) p.handles q.handles (p.counts.instructions ∙ sym q.counts.instructions) (p.counts.handled ∙ sym q.counts.handled)
+    let one = first_one p.message q.message p.earlier p.later q.earlier q.later l.deferred p.takes.found q.takes.found
+    p.takes.stale q.takes.stale in
+    handles_same s i e.stamp e2.stamp p.message q.message (record l { deferred = p.earlier ++ p.later })
+    (record l { deferred = q.earlier ++ q.later }) x y sends sends2 e.after e2.after at
+    one.0 (ap (λ (ws : List Waiting). record l { deferred = ws }) one.1) p.handles q.handles
+    (p.counts.instructions ∙ sym q.counts.instructions) (p.counts.handled ∙ sym q.counts.handled)
 acts_same s i l front front2 x y e e2 sends sends2 (act.Delivered kind block from chan number) at f p q =
     let one : p.message ≡ q.message = cc (p.is_front, q.is_front) in
-    handles_same s i e.stamp e2.stamp p.message q.message l l x y sends sends2 e.after e2.after at one refl p.handles q.handles (p.counts.instructions ∙ sym q.counts.instructions) (p.counts.handled ∙ sym q.counts.handled)
+    handles_same s i e.stamp e2.stamp p.message q.message l l x y sends sends2 e.after e2.after at one refl p.handles q.handles
+    (p.counts.instructions ∙ sym q.counts.instructions) (p.counts.handled ∙ sym q.counts.handled)
 
-pub step_sends : (s : Setup) (i : ℕ) (l : Local) (front front2 : Option Message) (x y : Local) (e : Entry) (sends sends2 : List Message) → front ≡ front2
+pub step_sends : (s : Setup) (i : ℕ) (l : Local) (front front2 : Option Message) (x y : Local) (e : Entry)
+    (sends sends2 : List Message) → front ≡ front2
     → LocalStep s i l front x e sends → LocalStep s i l front2 y e sends2 → sends ≡ sends2
-step_sends s i l front front2 x y e sends sends2 f p q = (acts_same s i l front front2 x y e e sends sends2 e.act refl f p.acts q.acts).sends_same
+step_sends s i l front front2 x y e sends sends2 f p q =
+    (acts_same s i l front front2 x y e e sends sends2 e.act refl f p.acts q.acts).sends_same
 
-pub step_local : (s : Setup) (i : ℕ) (l : Local) (front front2 : Option Message) (x y : Local) (e : Entry) (sends sends2 : List Message) → front ≡ front2
+pub step_local : (s : Setup) (i : ℕ) (l : Local) (front front2 : Option Message) (x y : Local) (e : Entry)
+    (sends sends2 : List Message) → front ≡ front2
     → LocalStep s i l front x e sends → LocalStep s i l front2 y e sends2 → x ≡ y
 step_local s i l front front2 x y e sends sends2 f p q =
     let parts = acts_same s i l front front2 x y e e sends sends2 e.act refl f p.acts q.acts in
-    same_local x y sends sends2 e.after e.after parts (p.clock ∙ sym q.clock) (p.sent ∙ ap (λ (ms : List Message). l.sent + length ms) parts.sends_same ∙ sym q.sent)
+    same_local x y sends sends2 e.after e.after parts (p.clock ∙ sym q.clock)
+    (p.sent ∙ ap (λ (ms : List Message). l.sent + length ms) parts.sends_same ∙ sym q.sent)
 
 -- what is taken is determined, where no wire has two fronts
-pub acts_front : (s : Setup) (i : ℕ) (l : Local) (front front2 : Option Message) (x y : Local) (e e2 : Entry) (sends sends2 : List Message) (a : Act)
+pub acts_front : (s : Setup) (i : ℕ) (l : Local) (front front2 : Option Message) (x y : Local) (e e2 : Entry)
+    (sends sends2 : List Message) (a : Act)
     → ((f : ℕ) (c : Chan) (m m2 : Message) → takes_from a f c ≡ true → front ≡ Some m → front2 ≡ Some m2 → m ≡ m2)
     → Acts s i l front x e sends a → Acts s i l front2 y e2 sends2 a → front ≡ front2
-acts_front s i l front front2 x y e e2 sends sends2 (act.Load address value) h p q = p.0.instructs.no_front ∙ sym q.0.instructs.no_front
-acts_front s i l front front2 x y e e2 sends sends2 (act.Store address value) h p q = p.0.instructs.no_front ∙ sym q.0.instructs.no_front
-acts_front s i l front front2 x y e e2 sends sends2 (act.Faa address value sum) h p q = p.0.instructs.no_front ∙ sym q.0.instructs.no_front
+acts_front s i l front front2 x y e e2 sends sends2 (act.Load address value) h p q = p.0.instructs.no_front
+    ∙ sym q.0.instructs.no_front
+acts_front s i l front front2 x y e e2 sends sends2 (act.Store address value) h p q = p.0.instructs.no_front
+    ∙ sym q.0.instructs.no_front
+acts_front s i l front front2 x y e e2 sends sends2 (act.Faa address value sum) h p q = p.0.instructs.no_front
+    ∙ sym q.0.instructs.no_front
 acts_front s i l front front2 x y e e2 sends sends2 (act.Print value) h p q = p.0.instructs.no_front ∙ sym q.0.instructs.no_front
 acts_front s i l front front2 x y e e2 sends sends2 act.Halt h p q = p.0.instructs.no_front ∙ sym q.0.instructs.no_front
 acts_front s i l front front2 x y e e2 sends sends2 (act.Trapped why) h p q = p.0.instructs.no_front ∙ sym q.0.instructs.no_front
 acts_front s i l front front2 x y e e2 sends sends2 act.Step h p q = p.0.instructs.no_front ∙ sym q.0.instructs.no_front
-acts_front s i l front front2 x y e e2 sends sends2 (act.Fault store block) h p q = p.instructs.no_front ∙ sym q.instructs.no_front
+acts_front s i l front front2 x y e e2 sends sends2 (act.Fault store block) h p q = p.instructs.no_front
+    ∙ sym q.instructs.no_front
 acts_front s i l front front2 x y e e2 sends sends2 (act.Redelivered kind block from) h p q = p.no_front ∙ sym q.no_front
 acts_front s i l front front2 x y e e2 sends sends2 (act.Delivered kind block from chan number) h p q =
     let here : (nat_eq from from && chan_eq chan chan) ≡ true = rw (nat_eq_refl from) (chan_eq_refl chan) in

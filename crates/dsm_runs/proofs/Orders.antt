@@ -1,5 +1,6 @@
 -- There is one merge of logs.
-use Rattle.std.proofs.Common.{◌≡◌, ◌≢◌, ℕ, zero, suc, ◌<◌, ◌≤◌, Bool, true, false, if◌then◌else◌, List, [], ◌∷◌, ◌⊎◌, arith, refl, ap, sym, ◌∙◌, subst, inl, inr}
+use Rattle.std.proofs.Common.{◌≡◌, ◌≢◌, ℕ, zero, suc, ◌<◌, ◌≤◌, Bool, true, false, if◌then◌else◌, List, [], ◌∷◌, ◌⊎◌, arith}
+use Rattle.std.proofs.Common.{refl, ap, sym, ◌∙◌, subst, inl, inr}
 use Rattle.std.proofs.lemmas.Bool.{cases_eq, cases_lt}
 use Rattle.std.proofs.lemmas.Bool.Decides.{nat_tests}
 use Rattle.std.specs.List.{filter}
@@ -46,7 +47,8 @@ insert_sorted e [] h k = (tt, tt)
 insert_sorted e (x ∷ xs) h k = go (comes_before e x) refl (insert_sorted e xs h.1 k.1)
   where
     go : (b : Bool) → comes_before e x ≡ b → IsSorted (insert e xs) → IsSorted (if b then e ∷ x ∷ xs else x ∷ insert e xs)
-    go true q r = let now : Before e x = goes_before e x q in ((now, Each-implied (Before x) (Before e) xs (λ y z. before_more e x y now z) k.0), k)
+    go true q r = let now : Before e x = goes_before e x q in
+        ((now, Each-implied (Before x) (Before e) xs (λ y z. before_more e x y now z) k.0), k)
     go false q r = (each_insert (Before x) e xs (behind (goes_behind e x q)) k.0, r)
       where
         behind : (x.stamp < e.stamp) ⊎ (x.stamp ≡ e.stamp) × (x.node ≤ e.node) → Before x e
@@ -56,15 +58,18 @@ insert_sorted e (x ∷ xs) h k = go (comes_before e x) refl (insert_sorted e xs 
           | inr d ↦ inr (z.0, omega arith)
         ]
 
-insert_here : (e : Entry) (xs : List Entry) → Each (IsLater e) xs → filter (is_of e.node) (insert e xs) ≡ e ∷ filter (is_of e.node) xs
+insert_here : (e : Entry) (xs : List Entry) → Each (IsLater e) xs →
+    filter (is_of e.node) (insert e xs) ≡ e ∷ filter (is_of e.node) xs
 insert_here e [] h = of_here e []
 insert_here e (x ∷ xs) h = go (comes_before e x) refl (insert_here e xs h.1)
   where
-    go : (b : Bool) → comes_before e x ≡ b → filter (is_of e.node) (insert e xs) ≡ e ∷ filter (is_of e.node) xs → filter (is_of e.node) (if b then e ∷ x ∷ xs else x ∷ insert e xs) ≡ e ∷ filter (is_of e.node) (x ∷ xs)
+    go : (b : Bool) → comes_before e x ≡ b → filter (is_of e.node) (insert e xs) ≡ e ∷ filter (is_of e.node) xs →
+        filter (is_of e.node) (if b then e ∷ x ∷ xs else x ∷ insert e xs) ≡ e ∷ filter (is_of e.node) (x ∷ xs)
     go true q r = of_here e (x ∷ xs)
     go false q r = elim (cases_eq x.node e.node) [
       | inl at ↦ absurd (later at (goes_behind e x q))
-      | inr d ↦ of_other e.node x (insert e xs) (λ p. d (sym p)) ∙ r ∙ ap (λ (l : List Entry). e ∷ l) (sym (of_other e.node x xs (λ p. d (sym p))))
+      | inr d ↦ of_other e.node x (insert e xs) (λ p. d (sym p)) ∙ r
+          ∙ ap (λ (l : List Entry). e ∷ l) (sym (of_other e.node x xs (λ p. d (sym p))))
     ]
       where
         later : x.node ≡ e.node → (x.stamp < e.stamp) ⊎ (x.stamp ≡ e.stamp) × (x.node ≤ e.node) → ⊥
@@ -75,11 +80,13 @@ insert_other : (k : ℕ) (e : Entry) (xs : List Entry) → k ≢ e.node → filt
 insert_other k e [] d = of_other k e [] d
 insert_other k e (x ∷ xs) d = go (comes_before e x) (insert_other k e xs d)
   where
-    go : (b : Bool) → filter (is_of k) (insert e xs) ≡ filter (is_of k) xs → filter (is_of k) (if b then e ∷ x ∷ xs else x ∷ insert e xs) ≡ filter (is_of k) (x ∷ xs)
+    go : (b : Bool) → filter (is_of k) (insert e xs) ≡ filter (is_of k) xs →
+        filter (is_of k) (if b then e ∷ x ∷ xs else x ∷ insert e xs) ≡ filter (is_of k) (x ∷ xs)
     go true r = of_other k e (x ∷ xs) d
     go false r = both (is_of k x)
       where
-        both : (b : Bool) → (if b then x ∷ filter (is_of k) (insert e xs) else filter (is_of k) (insert e xs)) ≡ (if b then x ∷ filter (is_of k) xs else filter (is_of k) xs)
+        both : (b : Bool) → (if b then x ∷ filter (is_of k) (insert e xs) else filter (is_of k) (insert e xs))
+            ≡ (if b then x ∷ filter (is_of k) xs else filter (is_of k) xs)
         both true = ap (λ (l : List Entry). x ∷ l) r
         both false = r
 
@@ -109,7 +116,8 @@ none_of i (x ∷ xs) h = of_other i x xs (λ q. h.0 (sym q)) ∙ none_of i xs h.
 meld_here : (i : ℕ) (es j : List Entry) → IsLog i es → Each (NotOf i) j → filter (is_of i) (meld es j) ≡ es
 meld_here i [] j h k = none_of i j k
 meld_here i (e ∷ es) j h k =
-    subst (λ n. filter (is_of n) (insert e (meld es j)) ≡ e ∷ filter (is_of n) (meld es j)) h.nodes.0 (insert_here e (meld es j) (all_later i e es j h k))
+    subst (λ n. filter (is_of n) (insert e (meld es j)) ≡ e ∷ filter (is_of n) (meld es j)) h.nodes.0
+    (insert_here e (meld es j) (all_later i e es j h k))
     ∙ ap (λ (l : List Entry). e ∷ l) (meld_here i es j (rest_log i e es h) k)
 
 meld_other : (i k : ℕ) (es j : List Entry) → k ≢ i → IsLog i es → filter (is_of k) (meld es j) ≡ filter (is_of k) j
@@ -122,8 +130,10 @@ Below n x = x.node < n
 merged_below : (n : ℕ) (logs : ℕ → List Entry) → ((i : ℕ) → i < n → IsLog i (logs i)) → Each (Below n) (merged n logs)
 merged_below zero logs h = tt
 merged_below (suc n) logs h =
-    each_meld (Below (suc n)) (logs n) (merged n logs) (Each-implied (λ x. x.node ≡ n) (Below (suc n)) (logs n) (λ x q. omega (arith, q)) (h n (omega arith)).nodes)
-    (Each-implied (Below n) (Below (suc n)) (merged n logs) (λ x q. omega (arith, q)) (merged_below n logs (λ i l. h i (omega arith))))
+    each_meld (Below (suc n)) (logs n) (merged n logs) (Each-implied (λ x. x.node ≡ n) (Below (suc n)) (logs n)
+    (λ x q. omega (arith, q)) (h n (omega arith)).nodes)
+    (Each-implied (Below n) (Below (suc n)) (merged n logs) (λ x q. omega (arith, q))
+    (merged_below n logs (λ i l. h i (omega arith))))
 
 others_not : (n : ℕ) (j : List Entry) → Each (Below n) j → Each (NotOf n) j
 others_not n j h = Each-implied (Below n) (NotOf n) j (λ x l q. omega (arith, l, q)) h
@@ -158,9 +168,11 @@ not_both a b (inr h) (inl k) = omega arith
 not_both a b (inr h) (inr k) = omega arith
 
 -- x stands behind y, if it is the first of its node there
-is_behind : (x y : Entry) (rest ys : List Entry) → x.node ≢ y.node → x ∷ rest ≡ filter (is_of x.node) (y ∷ ys) → Each (Before y) ys → Before y x
+is_behind : (x y : Entry) (rest ys : List Entry) → x.node ≢ y.node → x ∷ rest ≡ filter (is_of x.node) (y ∷ ys) →
+    Each (Before y) ys → Before y x
 is_behind x y rest ys d h s =
-    let all : Each (Before y) (x ∷ rest) = subst (λ (l : List Entry). Each (Before y) l) (sym (h ∙ of_other x.node y ys d)) (Each-filter (Before y) (is_of x.node) ys s) in
+    let all : Each (Before y) (x ∷ rest) = subst (λ (l : List Entry). Each (Before y) l) (sym (h ∙ of_other x.node y ys d))
+    (Each-filter (Before y) (is_of x.node) ys s) in
     all.0
 
 one_merge : (xs ys : List Entry) → ((k : ℕ) → filter (is_of k) xs ≡ filter (is_of k) ys) → IsSorted xs → IsSorted ys → xs ≡ ys
@@ -169,8 +181,10 @@ one_merge [] (y ∷ ys) h s t = absurd (not_nothing y (filter (is_of y.node) ys)
 one_merge (x ∷ xs) [] h s t = absurd (not_nothing x (filter (is_of x.node) xs) (sym (of_here x xs) ∙ h x.node))
 one_merge (x ∷ xs) (y ∷ ys) h s t = elim (cases_eq x.node y.node) [
   | inl q ↦
-      let mine : x ∷ filter (is_of x.node) xs ≡ y ∷ filter (is_of x.node) ys = sym (of_here x xs) ∙ h x.node ∙ subst (λ n. filter (is_of n) (y ∷ ys) ≡ y ∷ filter (is_of n) ys) (sym q) (of_here y ys) in
-      ap (λ (e : Entry). e ∷ xs) (entry_head _ _ _ _ mine) ∙ ap (λ (l : List Entry). y ∷ l) (one_merge xs ys (λ k. elim (cases_eq k x.node) [
+      let mine : x ∷ filter (is_of x.node) xs ≡ y ∷ filter (is_of x.node) ys = sym (of_here x xs) ∙ h x.node
+      ∙ subst (λ n. filter (is_of n) (y ∷ ys) ≡ y ∷ filter (is_of n) ys) (sym q) (of_here y ys) in
+      ap (λ (e : Entry). e ∷ xs) (entry_head _ _ _ _ mine) ∙ ap (λ (l : List Entry). y ∷ l)
+      (one_merge xs ys (λ k. elim (cases_eq k x.node) [
         | inl at ↦ rw at (entry_tail _ _ _ _ mine)
         | inr d ↦ sym (of_other k x xs d) ∙ h k ∙ of_other k y ys (λ p. d (p ∙ sym q))
       ]) s.1 t.1)
@@ -179,7 +193,8 @@ one_merge (x ∷ xs) (y ∷ ys) h s t = elim (cases_eq x.node y.node) [
       (is_behind y x (filter (is_of y.node) ys) xs (λ q. d (sym q)) (sym (of_here y ys) ∙ sym (h y.node)) s.0))
 ]
 
-pub same_merge : (n : ℕ) (logs : ℕ → List Entry) (first second : List Entry) → IsMerge n logs first → IsMerge n logs second → first ≡ second
+pub same_merge : (n : ℕ) (logs : ℕ → List Entry) (first second : List Entry) → IsMerge n logs first → IsMerge n logs second →
+    first ≡ second
 same_merge n logs first second p q = one_merge first second (λ k. elim (cases_lt k n) [
   | inl h ↦ p.parts k h ∙ sym (q.parts k h)
   | inr h ↦ none_of k first (beyond k h first p.within) ∙ sym (none_of k second (beyond k h second q.within))

@@ -1,5 +1,6 @@
 -- At the start each block fits.
-use Rattle.std.proofs.Common.{◌≡◌, ◌∙◌, ℕ, suc, ◌*◌, ◌<◌, ◌≤◌, Bool, true, false, not, cond, nat_eq, nat_lt, List, [], ◌∷◌, Option, Some, None, length, map, drop, take, refl, ap, sym, subst, arith, inl, inr}
+use Rattle.std.proofs.Common.{◌≡◌, ◌∙◌, ℕ, suc, ◌*◌, ◌<◌, ◌≤◌, Bool, true, false, not, cond, nat_eq, nat_lt, List, [], ◌∷◌}
+use Rattle.std.proofs.Common.{Option, Some, None, length, map, drop, take, refl, ap, sym, subst, arith, inl, inr}
 use Rattle.std.specs.Prelude.{find, if◌then◌else◌, is_none, is_some, position, slice_get, unwrap_or, ◌||◌, ◌==◌}
 use Rattle.std.specs.List.{position_or_len, range_with_len}
 use Rattle.std.specs.Str.{bytes_eq}
@@ -41,7 +42,8 @@ found_any P test (y ∷ ys) x e h = by_test (test y) e (found_any P test ys x)
     by_test true f more = inl (subst P (sym (some_same y x f)) h)
     by_test false f more = inr (more f h)
 
-found_at : (test : State → Bool) (xs : List State) (x : State) → find test xs ≡ Some x → slice_get xs (unwrap_or (position test xs) 0) ≡ Some x
+found_at : (test : State → Bool) (xs : List State) (x : State) → find test xs ≡ Some x →
+    slice_get xs (unwrap_or (position test xs) 0) ≡ Some x
 found_at test xs x e =
     let k = position_or_len test xs in
     let at : slice_get xs k ≡ Some x = sym (find_at test xs) ∙ e in
@@ -50,7 +52,8 @@ found_at test xs x e =
 
 -- ---- an accepted protocol has a start of either kind, and its state takes no arguments
 
-one_of_two : (home a b : Bool) (x y : Start) (more : List Start) → x.home ≡ a → y.home ≡ b → (y.home ≡ x.home → ⊥) → (start : Start) × (find (λ z. is_start home z) (x ∷ y ∷ more) ≡ Some start)
+one_of_two : (home a b : Bool) (x y : Start) (more : List Start) → x.home ≡ a → y.home ≡ b → (y.home ≡ x.home → ⊥) →
+    (start : Start) × (find (λ z. is_start home z) (x ∷ y ∷ more) ≡ Some start)
 one_of_two true true b x y more e f apart = (x, rw e refl)
 one_of_two true false true x y more e f apart = (y, rw (e, f) refl)
 one_of_two true false false x y more e f apart = absurd (apart (f ∙ sym e))
@@ -66,7 +69,8 @@ some_start p home a = go p.starts refl
     go (x ∷ []) e = absurd (a.keeps p.line NotTwoStarts (inr (refl, rw e (omega arith))))
     go (x ∷ y ∷ more) e =
         subst (λ (xs : List Start). (start : Start) × (find (λ z. is_start home z) xs ≡ Some start)) (sym e)
-        (one_of_two home x.home y.home x y more refl refl (λ same. a.keeps y.line NotTwoStarts (inl (rw e (inl (inl (same, refl)))))))
+        (one_of_two home x.home y.home x y more refl refl (λ same. a.keeps y.line NotTwoStarts
+        (inl (rw e (inl (inl (same, refl)))))))
 
 -- the state of a start
 record IsPlain (p : Protocol) (name : Name) : Type 0 where
@@ -84,13 +88,20 @@ never_true : (b : Bool) → (b ≡ true → ⊥) → b ≡ false
 never_true true never = absurd (never refl)
 never_true false never = refl
 
-plain_start : (p : Protocol) (home : Bool) (start : Start) → IsAccepted p → find (λ z. is_start home z) p.starts ≡ Some start → IsPlain p start.state
+plain_start : (p : Protocol) (home : Bool) (start : Start) → IsAccepted p → find (λ z. is_start home z) p.starts ≡ Some start →
+    IsPlain p start.state
 plain_start p home start a found = go (state_of p start.state) refl
   where
     go : (o : Option State) → state_of p start.state ≡ o → IsPlain p start.state
-    go None e = absurd (a.keeps start.line Undeclared (inl (found_any (λ (x : Start). (x.line ≡ start.line) × (is_none (state_of p x.state) ≡ true)) (λ z. is_start home z) p.starts start found (refl, rw e refl))))
+    go None e =
+        absurd (a.keeps start.line Undeclared
+        (inl (found_any (λ (x : Start). (x.line ≡ start.line) × (is_none (state_of p x.state) ≡ true))
+        (λ z. is_start home z) p.starts start found (refl, rw e refl))))
     go (Some d) e =
-        let right : is_wrong_start (Some d) ≡ false = never_true (is_wrong_start (Some d)) (λ h. a.keeps start.line ArgCount (inl (found_any (λ (x : Start). (x.line ≡ start.line) × (is_wrong_start (state_of p x.state) ≡ true)) (λ z. is_start home z) p.starts start found (refl, rw e h)))) in
+        let right : is_wrong_start (Some d) ≡ false = never_true (is_wrong_start (Some d))
+        (λ h. a.keeps start.line ArgCount
+        (inl (found_any (λ (x : Start). (x.line ≡ start.line) × (is_wrong_start (state_of p x.state) ≡ true))
+        (λ z. is_start home z) p.starts start found (refl, rw e h)))) in
         let parts = no_arguments (length d.params == 0) (is_some d.cont) right in
         record { state = d; is_state = e; params = (Decides-eqb (length d.params) 0).0 parts.0; cont = parts.1 }
 
@@ -100,7 +111,8 @@ no_params : (ps : List Param) → length ps ≡ 0 → types_of ps ≡ []
 no_params [] h = refl
 no_params (a ∷ ps) h = absurd (omega arith)
 
-plain_fits : (p : Protocol) (count n k : ℕ) (d : State) → slice_get p.states k ≡ Some d → length d.params ≡ 0 → is_some d.cont ≡ false → fits_below (suc n) p count (roll-StateVal (record { state = k; args = []; cont = None }))
+plain_fits : (p : Protocol) (count n k : ℕ) (d : State) → slice_get p.states k ≡ Some d → length d.params ≡ 0 →
+    is_some d.cont ≡ false → fits_below (suc n) p count (roll-StateVal (record { state = k; args = []; cont = None }))
 unfolding fits_below
 plain_fits p count n k d is_state params cont =
     let x : StateVal-F Cont StateVal = record { state = k; args = []; cont = None } in
@@ -120,7 +132,8 @@ zero_typed ty.Set = refl
 
 infos_typed : (ps : List Param) → map type_of (map (λ a. zero_of a.ty) ps) ≡ types_of ps
 infos_typed [] = refl
-infos_typed (a ∷ ps) = ap (λ t. t ∷ map type_of (map (λ a. zero_of a.ty) ps)) (zero_typed a.ty) ∙ ap (λ ts. a.ty ∷ ts) (infos_typed ps)
+infos_typed (a ∷ ps) = ap (λ t. t ∷ map type_of (map (λ a. zero_of a.ty) ps)) (zero_typed a.ty)
+    ∙ ap (λ ts. a.ty ∷ ts) (infos_typed ps)
 
 first_fits : (s : Setup) (i b : ℕ) → IsAccepted s.protocol → Fits s.protocol (first_here s i b)
 first_fits s i b a =
@@ -128,7 +141,8 @@ first_fits s i b a =
     let line = some_start s.protocol home a in
     let plain = plain_start s.protocol home line.0 a line.1 in
     let at = found_at (λ (x : State). bytes_eq x.name line.0.state) s.protocol.states plain.state plain.is_state in
-    let number : slice_get s.protocol.states (start_state s (start_line s home)) ≡ Some plain.state = ap (λ o. slice_get s.protocol.states (start_state s o)) line.1 ∙ at in
+    let number : slice_get s.protocol.states (start_state s (start_line s home)) ≡ Some plain.state =
+    ap (λ o. slice_get s.protocol.states (start_state s o)) line.1 ∙ at in
     record {
       state = plain_fits s.protocol _ 8 (start_state s (start_line s home)) plain.state number plain.params plain.cont;
       infos = infos_typed s.protocol.infos;

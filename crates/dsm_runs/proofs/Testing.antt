@@ -1,5 +1,6 @@
 -- The tests say whether an event is enabled.
-use Rattle.std.proofs.Common.{◌≡◌, ◌<◌, Bool, true, false, not, ◌||◌, nat_lt, List, [], ◌∷◌, ◌++◌, Option, Some, None, refl, ap, sym, ◌∙◌, subst}
+use Rattle.std.proofs.Common.{◌≡◌, ◌<◌, Bool, true, false, not, ◌||◌, nat_lt, List, [], ◌∷◌, ◌++◌, Option, Some, None, refl, ap}
+use Rattle.std.proofs.Common.{sym, ◌∙◌, subst}
 use Rattle.std.specs.Prelude.{slice_get, is_some}
 use Rattle.std.specs.Bool.{Decides}
 use Rattle.std.proofs.Math.Bool.{or-true}
@@ -40,17 +41,20 @@ pub may_instruct_decides : (s : Setup) (l : Local) → Decides (may_instruct s l
 may_instruct_decides s l = Decides-like (may_instruct s l)
     (λ h. record { unfailed = h.0; ready = h.1.0; instructions = h.1.1.0; sent = h.1.1.1.0; clock = h.1.1.1.1 })
     (λ m. (m.unfailed, (m.ready, (m.instructions, (m.sent, m.clock)))))
-    (Decides-and _ _ (none_decides l.failed) (Decides-and _ _ (ready_decides l.mode) (Decides-and _ _ (Decides-ltb l.instructions s.shape.budget)
+    (Decides-and _ _ (none_decides l.failed) (Decides-and _ _ (ready_decides l.mode)
+    (Decides-and _ _ (Decides-ltb l.instructions s.shape.budget)
     (Decides-and _ _ (Decides-ltb l.sent (handler_budget_of s.shape)) (Decides-ltb l.clock last_stamp)))))
 
 held_decides : (s : Setup) (l : Local) → Decides (is_held s l) (IsHeld s l)
-held_decides s l = Decides-like (is_held s l) (λ h. record { woken = h.0; may = h.1 }) (λ m. (m.woken, m.may)) (Decides-and _ _ (woken_decides l.mode) (may_instruct_decides s l))
+held_decides s l = Decides-like (is_held s l) (λ h. record { woken = h.0; may = h.1 }) (λ m. (m.woken, m.may))
+    (Decides-and _ _ (woken_decides l.mode) (may_instruct_decides s l))
 
 pub may_handle_decides : (s : Setup) (l : Local) → Decides (may_handle s l) (MayHandle s l)
 may_handle_decides s l = Decides-like (may_handle s l)
     (λ h. record { unfailed = h.0; free = h.1.0; handled = h.1.1.0; sent = h.1.1.1.0; clock = h.1.1.1.1 })
     (λ m. (m.unfailed, (m.free, (m.handled, (m.sent, m.clock)))))
-    (Decides-and _ _ (none_decides l.failed) (Decides-and _ _ (Decides-not _ (held_decides s l)) (Decides-and _ _ (Decides-ltb l.handled (handler_budget_of s.shape))
+    (Decides-and _ _ (none_decides l.failed) (Decides-and _ _ (Decides-not _ (held_decides s l))
+    (Decides-and _ _ (Decides-ltb l.handled (handler_budget_of s.shape))
     (Decides-and _ _ (Decides-ltb l.sent (handler_budget_of s.shape)) (Decides-ltb l.clock last_stamp)))))
 
 -- ---- deferred messages
@@ -79,7 +83,10 @@ first_is (w ∷ ws) e = one w.eligible refl e (first_is ws)
       message = w.message;
       earlier = [];
       later = ws;
-      takes = record { found = ap (λ b. let x : Waiting = record { message = w.message; eligible = b } in x ∷ ws) is; stale = tt };
+      takes = record {
+        found = ap (λ b. let x : Waiting = record { message = w.message; eligible = b } in x ∷ ws) is;
+        stale = tt;
+      };
     }
     one false is found rest =
         let r : HasFirst ws = rest found in
@@ -90,7 +97,8 @@ first_is (w ∷ ws) e = one w.eligible refl e (first_is ws)
           takes = record { found = ap (λ (x : List Waiting). w ∷ x) r.takes.found; stale = (is, r.takes.stale) };
         }
 
-there : (m : Message) (earlier later : List Waiting) → has_eligible (earlier ++ record { message = m; eligible = true } ∷ later) ≡ true
+there : (m : Message) (earlier later : List Waiting) → has_eligible
+    (earlier ++ record { message = m; eligible = true } ∷ later) ≡ true
 there m [] later = refl
 there m (w ∷ earlier) later = ap (λ b. w.eligible || b) (there m earlier later) ∙ or-true w.eligible
 
@@ -126,10 +134,39 @@ enabled_decides s g (event.Redeliver i) = Decides-and _ _ (Decides-ltb i s.shape
     (λ m. (m.may, record { message = m.message; earlier = m.earlier; later = m.later; takes = m.takes }))
     (Decides-and _ _ (may_handle_decides s (g.locals i)) (first_decides (g.locals i).deferred)))
 enabled_decides s g (event.Deliver i f c) = Decides-like _
-    (λ h. (h.0, h.1.0, record { may = h.1.1.0; none_eligible = h.1.1.1.0; message = h.1.1.1.1.message; rest = h.1.1.1.1.rest; front = h.1.1.1.1.front; early = h.1.1.1.1.early }))
-    (λ h. (h.0, (h.1, (h.2.may, (h.2.none_eligible, record { message = h.2.message; rest = h.2.rest; front = h.2.front; early = h.2.early })))))
+    (λ h. (
+      h.0,
+      h.1.0,
+      record {
+        may = h.1.1.0;
+        none_eligible = h.1.1.1.0;
+        message = h.1.1.1.1.message;
+        rest = h.1.1.1.1.rest;
+        front = h.1.1.1.1.front;
+        early = h.1.1.1.1.early;
+      },
+    ))
+    (λ h. (
+      h.0,
+      (
+        h.1,
+        (
+          h.2.may,
+          (
+            h.2.none_eligible,
+            record {
+              message = h.2.message;
+              rest = h.2.rest;
+              front = h.2.front;
+              early = h.2.early;
+            },
+          ),
+        ),
+      ),
+    ))
     (Decides-and _ _ (Decides-ltb i s.shape.nodes) (Decides-and _ _ (Decides-ltb f s.shape.nodes)
-    (Decides-and _ _ (may_handle_decides s (g.locals i)) (Decides-and _ _ (stale_decides (g.locals i).deferred) (front_decides (g.wires f i c))))))
+    (Decides-and _ _ (may_handle_decides s (g.locals i)) (Decides-and _ _ (stale_decides (g.locals i).deferred)
+    (front_decides (g.wires f i c))))))
 
 pub enabled_meaning : (s : Setup) (g : World) (e : Event) (r : Bool) → r ≡ is_enabled s g e → Decides r (IsEnabled s g e)
 enabled_meaning s g e r is = subst (λ (b : Bool). Decides b (IsEnabled s g e)) (sym is) (enabled_decides s g e)

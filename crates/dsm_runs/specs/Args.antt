@@ -16,5 +16,6 @@ padded_args args = used_args args ++ replicate (4 - length (used_args args)) (In
 pub few_args : (args : List Value) → length (used_args args) ≤ 4
 few_args args = omega (arith, length-take 4 args)
 
-pub unused_args : (args : List Value) → drop (length (used_args args)) (padded_args args) ≡ replicate (4 - length (used_args args)) (Int 0)
+pub unused_args : (args : List Value) → drop (length (used_args args)) (padded_args args)
+    ≡ replicate (4 - length (used_args args)) (Int 0)
 unused_args args = drop-append_seam (used_args args) (replicate (4 - length (used_args args)) (Int 0))

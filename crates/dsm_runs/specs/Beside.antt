@@ -14,7 +14,8 @@ Moves X = ℕ → Local → Option Message → Act → X → X → Type 0
 
 -- an event makes one thing of it
 abbrev pub MovesToOne : {X : Type 0} → Moves X → Type 0
-MovesToOne {X} M = (i : ℕ) (l : Local) (front : Option Message) (a : Act) (x y z : X) → M i l front a x y → M i l front a x z → y ≡ z
+MovesToOne {X} M = (i : ℕ) (l : Local) (front : Option Message) (a : Act) (x y z : X) → M i l front a x y → M i l front a x z →
+    y ≡ z
 
 -- one entry of a node's log after another
 abbrev pub ReplaysBeside : {X : Type 0} → Moves X → Setup → ℕ → Course → X → List Entry → Course → X → Type 0

@@ -1,5 +1,6 @@
 -- What one event does at its node: one clause for each act that a log names.
-use Rattle.std.specs.Prelude.{◌≡◌, ◌≢◌, ℕ, ◌+◌, ◌<◌, Bool, true, false, if◌then◌else◌, nat_eq, max, length, slice_index, slice_set, List, [], ◌∷◌, ◌++◌, Option, Some, None, map}
+use Rattle.std.specs.Prelude.{◌≡◌, ◌≢◌, ℕ, ◌+◌, ◌<◌, Bool, true, false, if◌then◌else◌, nat_eq, max, length, slice_index}
+use Rattle.std.specs.Prelude.{slice_set, List, [], ◌∷◌, ◌++◌, Option, Some, None, map}
 use Rattle.tw_base.specs.Lists.{Each}
 use Rattle.tw_base.specs.declared.entry.Act.{Act}
 use Rattle.tw_base.specs.declared.entry.Act.TheVariants as act

@@ -1,5 +1,6 @@
 -- What is fixed in a run, and what follows from it: addresses, programs, and the blocks at the start.
-use Rattle.std.specs.Prelude.{◌≡◌, ◌⊎◌, ℕ, ◌*◌, ◌/◌, ◌%◌, nat_eq, not, map, find, length, unwrap_or, Bool, true, false, List, [], Option, Some, None}
+use Rattle.std.specs.Prelude.{◌≡◌, ◌⊎◌, ℕ, ◌*◌, ◌/◌, ◌%◌, nat_eq, not, map, find, length, unwrap_or, Bool, true, false, List}
+use Rattle.std.specs.Prelude.{[], Option, Some, None}
 use Rattle.std.specs.List.{slice_index_or}
 use Rattle.tw_base.specs.Lists.{Each}
 use Rattle.tw_base.specs.Shape.{Sizes, IsWithinLimits}

@@ -1,5 +1,6 @@
 -- All nodes and wires, and what a run of them is.
-use Rattle.std.specs.Prelude.{◌≡◌, ◌≢◌, ℕ, ◌+◌, ◌<◌, Bool, false, ◌&&◌, if◌then◌else◌, nat_eq, length, List, [], ◌∷◌, ◌++◌, Option, option_to_list}
+use Rattle.std.specs.Prelude.{◌≡◌, ◌≢◌, ℕ, ◌+◌, ◌<◌, Bool, false, ◌&&◌, if◌then◌else◌, nat_eq, length, List, [], ◌∷◌, ◌++◌}
+use Rattle.std.specs.Prelude.{Option, option_to_list}
 use Rattle.std.specs.List.{filter}
 use Rattle.tw_base.specs.declared.entry.Act.{Act}
 use Rattle.tw_base.specs.declared.entry.Act.TheVariants as act

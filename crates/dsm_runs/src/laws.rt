@@ -12,13 +12,15 @@ ghost use Rattle.dsm_runs.specs.Replays.{Course, ReplaysOne, Replays};
 ghost use Rattle.dsm_runs.specs.Merges.{Agrees, AllReplay, IsJoined, IsMerge, joined, merged};
 ghost use Rattle.dsm_runs.specs.Laws.{IsLog, IsNumbered, IsOn, IsWire};
 ghost use Rattle.dsm_runs.specs.Schedules.{Settles};
-ghost use Rattle.dsm_runs.specs.Shown.{AsksWell, DeliveriesTakeFronts, HandlersHoldNobody, OthersTakeNothing, RefusedBlocksAreWithin};
+ghost use Rattle.dsm_runs.specs.Shown.{AsksWell, DeliveriesTakeFronts, HandlersHoldNobody, OthersTakeNothing};
+ghost use Rattle.dsm_runs.specs.Shown.{RefusedBlocksAreWithin};
 ghost use Rattle.dsm_runs.specs.Tests.{is_enabled};
 ghost use Rattle.std.specs.Bool.{Decides};
 ghost use Rattle.mini_asm.specs.declared.cpu.Cpu.{Cpu};
 ghost use Rattle.tw_base.specs.declared.entry.Event.{Event};
 ghost use Rattle.dsm_runs.specs.Flat.{DueStepsAreFlat, IsBeside, flat_start};
-ghost use Rattle.dsm_runs.specs.Invariants.{Bounded, EnabledEventsStep, EventsKeepNodes, FailedNodesAreOver, FailedNodesStay, LogsKeepNodes, NodesStartSound, RunsKeepTheirState, StepsKeepTheirState};
+ghost use Rattle.dsm_runs.specs.Invariants.{Bounded, EnabledEventsStep, EventsKeepNodes, FailedNodesAreOver, FailedNodesStay};
+ghost use Rattle.dsm_runs.specs.Invariants.{LogsKeepNodes, NodesStartSound, RunsKeepTheirState, StepsKeepTheirState};
 
 /// Where each node is what the replay of its log makes of it, and on each wire what was taken and then what is left is what
 /// was sent, the merge of the logs is a run from the start. It reaches these nodes, with what is left on the wires.
@@ -105,7 +107,8 @@ pub fn wires_are_sound()
 /// Each node's copy starts with the words that the flat machine starts with.
 pub fn nodes_start_with_the_flat_words()
     ensures { (s : Setup) (i address : ℕ) →
-        IsSetup s → address < size_of s → word_here s (first s i).blocks address ≡ slice_index (first_words (size_of s) s.init) address }
+        IsSetup s → address < size_of s → word_here s (first s i).blocks address
+        ≡ slice_index (first_words (size_of s) s.init) address }
 {}
 
 /// A schedule is one run, and ends in a quiet state.

@@ -31,7 +31,13 @@ impl Model for Setup {
 
     ghost view = { λ s. record { version = s.version; shape = s.shape; init = s.init; programs = s.programs; protocol = s.protocol } };
 
-    ghost invariant = { λ s. IsSetup (record { version = s.version; shape = s.shape; init = s.init; programs = s.programs; protocol = s.protocol }) };
+    ghost invariant = { λ s. IsSetup (record {
+      version = s.version;
+      shape = s.shape;
+      init = s.init;
+      programs = s.programs;
+      protocol = s.protocol;
+    }) };
 }
 
 impl Setup {
@@ -50,7 +56,13 @@ impl Setup {
         requires plain { version ≡ 1 → Each (λ program. has_faa program ≡ false) programs }
         requires init { IsInit (shape.words * shape.blocks) init }
         requires programs { length programs ≡ shape.nodes }
-        ensures value { result ≡ record { version = version; shape = shape; init = init; programs = programs; protocol = protocol } }
+        ensures value { result ≡ record {
+          version = version;
+          shape = shape;
+          init = init;
+          programs = programs;
+          protocol = protocol;
+        } }
         ensures valid { IsSetup result }
     {
         let _size = shape.size();

@@ -1,5 +1,6 @@
 -- The bits of a word, one after another.
-use Rattle.std.proofs.Common.{◌≡◌, ◌∙◌, ℕ, zero, suc, ◌+◌, ◌-◌, ◌*◌, ◌/◌, ◌%◌, ◌^◌, ◌<◌, ◌≤◌, Bool, true, false, List, [], ◌∷◌, Option, Some, None, length, min, refl, sym, ap, subst, arith, inl, inr, bit_and, count_ones}
+use Rattle.std.proofs.Common.{◌≡◌, ◌∙◌, ℕ, zero, suc, ◌+◌, ◌-◌, ◌*◌, ◌/◌, ◌%◌, ◌^◌, ◌<◌, ◌≤◌, Bool, true, false, List, [], ◌∷◌}
+use Rattle.std.proofs.Common.{Option, Some, None, length, min, refl, sym, ap, subst, arith, inl, inr, bit_and, count_ones}
 use Rattle.std.specs.Prelude.{◌==◌, slice_get}
 use Rattle.std.specs.Option.{option_map, option_and_then}
 use Rattle.std.proofs.Math.Nat.{zero-min}
@@ -94,7 +95,8 @@ none_low (suc n) (suc k) w le high = elim (cases_eq (w % 2) 1) [
 
 -- ---- what is told, by place
 
-behind : {X : Type 0} (x : X) (xs : List X) (o : Option ℕ) → option_and_then (slice_get (x ∷ xs)) (option_map suc o) ≡ option_and_then (slice_get xs) o
+behind : {X : Type 0} (x : X) (xs : List X) (o : Option ℕ) →
+    option_and_then (slice_get (x ∷ xs)) (option_map suc o) ≡ option_and_then (slice_get xs) o
 behind x xs None = refl
 behind x xs (Some k) = refl
 
@@ -103,7 +105,8 @@ none_there None = refl
 none_there (Some k) = refl
 
 -- the k-th item that is told is the one at the place of the k-th test that is true
-pub told_get : {X : Type 0} (bs : List Bool) (xs : List X) (k : ℕ) → slice_get (told bs xs) k ≡ option_and_then (slice_get xs) (true_at bs k)
+pub told_get : {X : Type 0} (bs : List Bool) (xs : List X) (k : ℕ) →
+    slice_get (told bs xs) k ≡ option_and_then (slice_get xs) (true_at bs k)
 told_get [] xs k = refl
 told_get {X} (b ∷ bs) [] k = sym (none_there {X = X} (true_at (b ∷ bs) k))
 told_get (true ∷ bs) (x ∷ xs) zero = refl
@@ -112,7 +115,8 @@ told_get (false ∷ bs) (x ∷ xs) k = told_get bs xs k ∙ sym (behind x xs (tr
 
 -- ---- how many are told
 
-told_more : {X : Type 0} (r : ℕ) (bs : List Bool) (x : X) (xs : List X) → r < 2 → length (told ((r == 1) ∷ bs) (x ∷ xs)) ≡ r + length (told bs xs)
+told_more : {X : Type 0} (r : ℕ) (bs : List Bool) (x : X) (xs : List X) → r < 2 →
+    length (told ((r == 1) ∷ bs) (x ∷ xs)) ≡ r + length (told bs xs)
 told_more zero bs x xs low = omega arith
 told_more (suc zero) bs x xs low = omega arith
 told_more (suc (suc r)) bs x xs low = absurd (omega arith)
@@ -121,11 +125,13 @@ no_ones : (word : ℕ) → word < 1 → count_ones word ≡ 0
 no_ones word low = omega (arith, ones-le 0 word (omega (arith, low)))
 
 -- as many items are told as there are ones in a word that has no other bits
-pub told_ones : {X : Type 0} (xs : List X) (word : ℕ) → word < 2 ^ length xs → length (told (truths (length xs) word) xs) ≡ count_ones word
+pub told_ones : {X : Type 0} (xs : List X) (word : ℕ) → word < 2 ^ length xs →
+    length (told (truths (length xs) word) xs) ≡ count_ones word
 unfolding truths
 told_ones [] word low = sym (no_ones word low)
 told_ones (x ∷ xs) word low =
     let more : suc (length xs) ≡ 1 + length xs = omega arith in
     let double : 2 ^ suc (length xs) ≡ 2 * 2 ^ length xs = ap (λ k. 2 ^ k) more ∙ pow-add 2 1 (length xs) in
     let half : word / 2 < 2 ^ length xs = omega (arith, low, double) in
-    told_more (word % 2) (truths (length xs) (word / 2)) x xs (omega arith) ∙ ap (λ n. word % 2 + n) (told_ones xs (word / 2) half) ∙ sym (ones_step word)
+    told_more (word % 2) (truths (length xs) (word / 2)) x xs (omega arith)
+    ∙ ap (λ n. word % 2 + n) (told_ones xs (word / 2) half) ∙ sym (ones_step word)

@@ -1,5 +1,6 @@
 -- Counts of bits kept beside words: how many events the words tell.
-use Rattle.std.proofs.Common.{◌≡◌, ◌∙◌, ℕ, zero, suc, ◌+◌, ◌-◌, ◌*◌, ◌^◌, ◌<◌, ◌≤◌, List, [], ◌∷◌, ◌++◌, Option, length, get_or, refl, sym, ap, subst, arith, count_ones}
+use Rattle.std.proofs.Common.{◌≡◌, ◌∙◌, ℕ, zero, suc, ◌+◌, ◌-◌, ◌*◌, ◌^◌, ◌<◌, ◌≤◌, List, [], ◌∷◌, ◌++◌, Option, length, get_or}
+use Rattle.std.proofs.Common.{refl, sym, ap, subst, arith, count_ones}
 use Rattle.std.specs.Prelude.{map, set, slice_get, slice_index, slice_set, sum, take}
 use Rattle.std.specs.List.{All, sum_by}
 use Rattle.std.proofs.lemmas.List.{get_or-map, length-map, length-set, map-append, map-set, take_all, take_more}
@@ -11,7 +12,8 @@ use Rattle.event_masks.specs.Told.{told_at, told_below, told_events}
 use Rattle.event_masks.proofs.Telling.{passed_node, picked, small_at, told_one_more}
 
 -- few counts have a small sum
-pub few_sum : (words counts : List ℕ) → length words ≤ 8 → counts ≡ map count_ones words → All (λ c. c ≤ 32) counts → sum counts < 2 ^ 32
+pub few_sum : (words counts : List ℕ) → length words ≤ 8 → counts ≡ map count_ones words → All (λ c. c ≤ 32) counts →
+    sum counts < 2 ^ 32
 few_sum words counts few is within =
     let size : length counts ≡ length words = ap (λ (cs : List ℕ). length cs) is ∙ length-map words count_ones in
     omega (arith, sum_by-le (λ x. x) 32 counts within, size, few)
@@ -57,7 +59,8 @@ pub counted_picked : (words counts : List ℕ) (number node from k more : ℕ) (
     o ≡ slice_get (told_at (length words) node (slice_index words from)) more → o ≡ slice_get (told_events words) k
 counted_picked words counts number node from k more o are l same here small is few at =
     let within : from < length words = subst (λ j. j < length words) (sym same) l in
-    picked words number node from k more o l same here small is (subst (λ n. more < n) (count_at words counts from are within) few) at
+    picked words number node from k more o l same here small is
+    (subst (λ n. more < n) (count_at words counts from are within) few) at
 
 pub counted_passed : (words counts : List ℕ) (number from k more : ℕ) → counts ≡ map count_ones words → number < length words →
     from ≡ number → All (λ w. w < 2 ^ (2 + 2 * length words)) words →
@@ -89,9 +92,11 @@ counted_set words counts total i word count now a l is low total_now =
     }
 
 -- the sum of the counts is how many events the words tell
-pub told_sum : (words : List ℕ) → All (λ w. w < 2 ^ (2 + 2 * length words)) words → length (told_events words) ≡ sum (map count_ones words)
+pub told_sum : (words : List ℕ) → All (λ w. w < 2 ^ (2 + 2 * length words)) words →
+    length (told_events words) ≡ sum (map count_ones words)
 told_sum words small =
-    below (length words) (omega arith) ∙ ap (λ (ws : List ℕ). sum_by count_ones ws) (take_all (length words) words (omega arith)) ∙ sym (sum-map count_ones words)
+    below (length words) (omega arith) ∙ ap (λ (ws : List ℕ). sum_by count_ones ws)
+    (take_all (length words) words (omega arith)) ∙ sym (sum-map count_ones words)
   where
     below : (i : ℕ) → i ≤ length words → length (told_below (length words) words i) ≡ sum_by count_ones (take i words)
     below zero le = refl

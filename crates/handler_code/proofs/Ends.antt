@@ -5,7 +5,8 @@ use Rattle.handler_code.specs.declared.code.Code.{Code}
 use Rattle.handler_code.specs.Doors.{EntersOnce, entered}
 use Rattle.handler_code.specs.Machine.{Machine, Move, Next, Runs, stops, moves, Stopped}
 
-carried : (p : Protocol) (code : Code) (x : Move) (a b : Machine) (e : Stopped) → x ≡ Next a → x ≡ Next b → Runs p code b e → Runs p code a e
+carried : (p : Protocol) (code : Code) (x : Move) (a b : Machine) (e : Stopped) → x ≡ Next a → x ≡ Next b → Runs p code b e →
+    Runs p code a e
 carried p code x a b e h k r = let same : b ≡ a = cc in subst (λ m. Runs p code m e) same r
 
 pub one_stop : (p : Protocol) (code : Code) {m : Machine} {a b : Stopped} → Runs p code m a → Runs p code m b → a ≡ b

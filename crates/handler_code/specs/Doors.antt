@@ -1,5 +1,6 @@
 -- Where the machine enters the code.
-use Rattle.std.specs.Prelude.{ℕ, ◌≡◌, ◌-◌, ◌==◌, ◌&&◌, Bool, true, false, List, [], ◌∷◌, ◌++◌, Option, Some, None, find, length, map, replicate, slice_get, take}
+use Rattle.std.specs.Prelude.{ℕ, ◌≡◌, ◌-◌, ◌==◌, ◌&&◌, Bool, true, false, List, [], ◌∷◌, ◌++◌, Option, Some, None, find, length}
+use Rattle.std.specs.Prelude.{map, replicate, slice_get, take}
 use Rattle.tw_base.specs.declared.message.Kind.{Kind}
 use Rattle.tw_base.specs.declared.message.Kind.TheVariants as kind
 use Rattle.tw_base.specs.declared.message.Message.{Message}
@@ -125,7 +126,8 @@ entered p door me home block tag words cell chain m = record {
 }
 
 -- The message enters the code at the door that its kind has in the state, and the machine comes to this end.
-pub record Enters (p : Protocol) (code : Code) (me home block : ℕ) (tag : Tag) (words : Data) (cell : Cell) (chain : List Saved) (m : Message) (e : Stopped) : Type 0 where
+pub record Enters (p : Protocol) (code : Code) (me home block : ℕ) (tag : Tag) (words : Data) (cell : Cell)
+    (chain : List Saved) (m : Message) (e : Stopped) : Type 0 where
   pub door : Door
   pub is_door : door_for code cell.state m.kind ≡ Some door
   pub runs : Runs p code (entered p door me home block tag words cell chain m) e

@@ -1,5 +1,6 @@
 -- The machine of ops.
-use Rattle.std.specs.Prelude.{ℕ, ◌≡◌, ◌+◌, ◌==◌, Bool, true, if◌then◌else◌, nat_le, List, [], ◌∷◌, ◌++◌, length, map, take, drop, reverse, Option, Some, None, slice_get, slice_set, unwrap_or}
+use Rattle.std.specs.Prelude.{ℕ, ◌≡◌, ◌+◌, ◌==◌, Bool, true, if◌then◌else◌, nat_le, List, [], ◌∷◌, ◌++◌, length, map, take}
+use Rattle.std.specs.Prelude.{drop, reverse, Option, Some, None, slice_get, slice_set, unwrap_or}
 use Rattle.std.specs.Int.{bit_at}
 use Rattle.tw_base.specs.NodeSets.{without}
 use Rattle.tw_base.specs.declared.entry.End.{End}
@@ -119,7 +120,10 @@ with_send p a to number args =
 -- to each node of the set in rising order
 abbrev pub with_sends : Protocol → Around → Value → ℕ → List Value → Around
 with_sends p a to number args =
-    record a { sends = a.sends ++ map (out_to number args (payload_of (slice_get p.messages number) a.words)) (nodes_in (set_of to)) }
+    record a {
+      sends = a.sends ++ map (out_to number args (payload_of (slice_get p.messages number) a.words))
+          (nodes_in (set_of to));
+    }
 
 -- the block's deferred messages are eligible
 abbrev pub freeing : Around → Around
@@ -139,7 +143,13 @@ saved_values None slots = slots
 
 abbrev pub suspended : Code → Machine → ℕ → List Value → ℕ → Machine
 suspended code m state args rest =
-    let saved : Saved = record { rest = rest; values = saved_values (slice_get code.rests rest) m.slots; came = m.came; state = m.state; args = m.args } in
+    let saved : Saved = record {
+      rest = rest;
+      values = saved_values (slice_get code.rests rest) m.slots;
+      came = m.came;
+      state = m.state;
+      args = m.args;
+    } in
     record m { state = state; args = args; chain = saved ∷ m.chain; records = m.records + 1 }
 
 abbrev pub place_of_rest : Option Rest → ℕ
@@ -180,7 +190,10 @@ act p code (op.Two o) m =
 act p code (op.Put k) m =
     Next (record (counted m) { slots = slice_set m.slots k (top m.stack); stack = below m.stack })
 act p code (op.PutInfo k) m =
-    Next (record (counted m) { around = record m.around { infos = slice_set m.around.infos k (top m.stack) }; stack = below m.stack })
+    Next (record (counted m) {
+      around = record m.around { infos = slice_set m.around.infos k (top m.stack) };
+      stack = below m.stack;
+    })
 act p code (op.JumpIfNot to) m =
     Next (record (counted m) { at = landing (top m.stack) (m.at + 1) to; stack = below m.stack })
 act p code (op.Jump to) m = Next (record (counted m) { at = to })

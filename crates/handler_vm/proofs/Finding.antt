@@ -1,15 +1,19 @@
 -- The doors of a state among those of the code, and the handler of a door.
-use Rattle.std.proofs.Common.{◌≡◌, ◌≢◌, ℕ, zero, suc, ◌+◌, ◌<◌, ◌≤◌, Bool, true, false, List, [], ◌∷◌, ◌++◌, Option, Some, None, length, take, drop, get_or, ltb, refl, sym, ap, subst, ◌∙◌, ⊎_elim, arith, append_assoc, length-append}
+use Rattle.std.proofs.Common.{◌≡◌, ◌≢◌, ℕ, zero, suc, ◌+◌, ◌<◌, ◌≤◌, Bool, true, false, List, [], ◌∷◌, ◌++◌, Option, Some, None}
+use Rattle.std.proofs.Common.{length, take, drop, get_or, ltb, refl, sym, ap, subst, ◌∙◌, ⊎_elim, arith, append_assoc}
+use Rattle.std.proofs.Common.{length-append}
 use Rattle.std.specs.Prelude.{◌==◌, ◌&&◌, cond, find, map, position, slice_get, IsSome}
 use Rattle.std.specs.List.{flat_map, position_or_len}
 use Rattle.std.specs.Option.{option_map, option_or}
 use Rattle.std.proofs.lemmas.Bool.{cases_lt}
 use Rattle.std.proofs.lemmas.Bool.Decides.{nat_tests}
-use Rattle.std.proofs.lemmas.List.{get_or-drop, get_or-take, length-drop, take_at, drop_at, take-map, drop-map, length-map, length-take, take-append-drop}
+use Rattle.std.proofs.lemmas.List.{get_or-drop, get_or-take, length-drop, take_at, drop_at, take-map, drop-map, length-map}
+use Rattle.std.proofs.lemmas.List.{length-take, take-append-drop}
 use Rattle.std.proofs.lemmas.List.Concat.{flat_map-append}
 use Rattle.std.proofs.lemmas.List.Folds.{find_at}
 use Rattle.std.proofs.lemmas.List.Quantifiers.{position-Some}
-use Rattle.std.proofs.lemmas.Option.{cond_some, get_or_from_slice_get, slice_get-get_or, slice_get-map, slice_get_past, slice_get_within}
+use Rattle.std.proofs.lemmas.Option.{cond_some, get_or_from_slice_get, slice_get-get_or, slice_get-map, slice_get_past}
+use Rattle.std.proofs.lemmas.Option.{slice_get_within}
 use Rattle.tw_base.specs.Lists.{Each}
 use Rattle.tw_base.specs.declared.message.Kind.{Kind}
 use Rattle.teapot_tree.specs.declared.protocol.Handler.{Handler}
@@ -20,7 +24,8 @@ use Rattle.handler_code.specs.declared.code.Code.{Code}
 use Rattle.handler_code.specs.declared.code.Door.{Door}
 use Rattle.handler_code.specs.declared.code.Kind2.{Kind2}
 use Rattle.handler_code.specs.declared.code.Kind2.TheVariants as on
-use Rattle.handler_code.specs.Doors.{door_for, door_or, handlers_at, is_for, is_for_all_else, kind_of, locals_at, locals_of, same_kind}
+use Rattle.handler_code.specs.Doors.{door_for, door_or, handlers_at, is_for, is_for_all_else, kind_of, locals_at, locals_of}
+use Rattle.handler_code.specs.Doors.{same_kind}
 use Rattle.handler_vm.specs.Finding.{StateDoors, place_for}
 use Rattle.handler_vm.specs.Order.{IsInOrder, Sign, sign_of, signs_from}
 use Rattle.handler_vm.specs.Tables.{Leads, StandsAt}
@@ -40,10 +45,12 @@ cut p n k m [] s number e = absurd (cc)
 cut p n zero m (t ∷ ss) s number e =
     let same : t ≡ s = cc in
     let here : n ≡ m = omega arith in
-    ap (λ (x : State). signs_of p n x.handlers ++ signs_from p (n + 1) ss) same ∙ ap (λ i. signs_of p i s.handlers ++ signs_from p (i + 1) ss) here
+    ap (λ (x : State). signs_of p n x.handlers ++ signs_from p (n + 1) ss) same
+    ∙ ap (λ i. signs_of p i s.handlers ++ signs_from p (i + 1) ss) here
 cut p n (suc k) m (t ∷ ss) s number e =
     ap (λ signs. signs_of p n t.handlers ++ signs) (cut p (n + 1) k m ss s (omega (arith, number)) e)
-    ∙ sym (append_assoc (signs_of p n t.handlers) (signs_from p (n + 1) (take k ss)) (signs_of p m s.handlers ++ signs_from p (m + 1) (drop (suc k) ss)))
+    ∙ sym (append_assoc (signs_of p n t.handlers) (signs_from p (n + 1) (take k ss))
+    (signs_of p m s.handlers ++ signs_from p (m + 1) (drop (suc k) ss)))
 
 abbrev handlers_of : List State → List Handler
 handlers_of ss = flat_map (λ (s : State). s.handlers) ss
@@ -51,7 +58,13 @@ handlers_of ss = flat_map (λ (s : State). s.handlers) ss
 length-signs : (p : Protocol) (n : ℕ) (ss : List State) → length (signs_from p n ss) ≡ length (handlers_of ss)
 length-signs p n [] = refl
 length-signs p n (s ∷ ss) =
-    omega (arith, length-append (signs_of p n s.handlers) (signs_from p (n + 1) ss), length-append s.handlers (handlers_of ss), length-signs p (n + 1) ss, length-map s.handlers (sign_in p n))
+    omega (
+      arith,
+      length-append (signs_of p n s.handlers) (signs_from p (n + 1) ss),
+      length-append s.handlers (handlers_of ss),
+      length-signs p (n + 1) ss,
+      length-map s.handlers (sign_in p n),
+    )
 
 -- ---- signs of other states
 
@@ -70,13 +83,15 @@ off_before : (p : Protocol) (n state : ℕ) (ss : List State) → n + length ss 
 off_before p n state [] low = tt
 off_before p n state (s ∷ ss) low =
     let off : n ≢ state = omega (arith, low) in
-    each_both (IsOff state) (signs_of p n s.handlers) (signs_from p (n + 1) ss) (all_off p n state s.handlers off) (off_before p (n + 1) state ss (omega (arith, low)))
+    each_both (IsOff state) (signs_of p n s.handlers) (signs_from p (n + 1) ss) (all_off p n state s.handlers off)
+    (off_before p (n + 1) state ss (omega (arith, low)))
 
 off_after : (p : Protocol) (n state : ℕ) (ss : List State) → state < n → Each (IsOff state) (signs_from p n ss)
 off_after p n state [] high = tt
 off_after p n state (s ∷ ss) high =
     let off : n ≢ state = omega (arith, high) in
-    each_both (IsOff state) (signs_of p n s.handlers) (signs_from p (n + 1) ss) (all_off p n state s.handlers off) (off_after p (n + 1) state ss (omega (arith, high)))
+    each_both (IsOff state) (signs_of p n s.handlers) (signs_from p (n + 1) ss) (all_off p n state s.handlers off)
+    (off_after p (n + 1) state ss (omega (arith, high)))
 
 -- ---- what a search over doors finds
 
@@ -89,15 +104,19 @@ alike a b h = grind (arith, nat_tests)
 abbrev opens : ℕ → (Kind2 → Bool) → Door → Bool
 opens state test d = (d.state == state) && test d.on
 
-none_off : (test : Kind2 → Bool) (state : ℕ) (ds : List Door) → Each (IsOff state) (map sign_of ds) → find (opens state test) ds ≡ None
+none_off : (test : Kind2 → Bool) (state : ℕ) (ds : List Door) → Each (IsOff state) (map sign_of ds) →
+    find (opens state test) ds ≡ None
 none_off test state [] off = refl
 none_off test state (d ∷ ds) off =
-    ap (λ b. cond (b && test d.on) (Some d) (find (opens state test) ds)) (apart d.state state off.0) ∙ none_off test state ds off.1
+    ap (λ b. cond (b && test d.on) (Some d) (find (opens state test) ds)) (apart d.state state off.0)
+    ∙ none_off test state ds off.1
 
-own_found : (test : Kind2 → Bool) (state : ℕ) (ds : List Door) → Each (λ (s : Sign). s.state ≡ state) (map sign_of ds) → find (opens state test) ds ≡ find (λ d. test d.on) ds
+own_found : (test : Kind2 → Bool) (state : ℕ) (ds : List Door) → Each (λ (s : Sign). s.state ≡ state) (map sign_of ds) →
+    find (opens state test) ds ≡ find (λ d. test d.on) ds
 own_found test state [] own = refl
 own_found test state (d ∷ ds) own =
-    ap (λ b. cond (b && test d.on) (Some d) (find (opens state test) ds)) (alike d.state state own.0) ∙ ap (λ o. cond (test d.on) (Some d) o) (own_found test state ds own.1)
+    ap (λ b. cond (b && test d.on) (Some d) (find (opens state test) ds)) (alike d.state state own.0)
+    ∙ ap (λ o. cond (test d.on) (Some d) o) (own_found test state ds own.1)
 
 passes : (b : Bool) (d : Door) (o : Option Door) → cond b (Some d) o ≡ None → (b ≡ false) × (o ≡ None)
 passes true d o e = absurd (cc)
@@ -119,7 +138,8 @@ own_signs : (p : Protocol) (state : ℕ) (hs : List Handler) → Each (λ (s : S
 own_signs p state [] = tt
 own_signs p state (h ∷ hs) = (refl, own_signs p state hs)
 
-module _ (p : Protocol) (code : Code) (order : IsInOrder p code) (state : ℕ) (s : State) (is : slice_get p.states state ≡ Some s) where
+module _ (p : Protocol) (code : Code) (order : IsInOrder p code) (state : ℕ) (s : State)
+    (is : slice_get p.states state ≡ Some s) where
   abbrev before : List Sign
   before = signs_from p 0 (take state p.states)
 
@@ -133,11 +153,22 @@ module _ (p : Protocol) (code : Code) (order : IsInOrder p code) (state : ℕ) (
   parts = order ∙ cut p 0 state state p.states s (omega arith) is
 
   -- the state's doors end where the code's do, or before
-  pub doors_within : (first : ℕ) → first ≡ length (flat_map (λ (x : State). x.handlers) (take state p.states)) → first + length s.handlers ≤ length code.doors
+  pub doors_within : (first : ℕ) → first ≡ length (flat_map (λ (x : State). x.handlers) (take state p.states)) →
+      first + length s.handlers ≤ length code.doors
   doors_within first begins =
-      omega (arith, begins, ap length parts, length-map code.doors sign_of, length-append before (here ++ after), length-append here after, length-map s.handlers (sign_in p state), length-signs p 0 (take state p.states))
+      omega (
+        arith,
+        begins,
+        ap length parts,
+        length-map code.doors sign_of,
+        length-append before (here ++ after),
+        length-append here after,
+        length-map s.handlers (sign_in p state),
+        length-signs p 0 (take state p.states),
+      )
 
-  pub own_doors : (first count : ℕ) → first ≡ length (flat_map (λ (x : State). x.handlers) (take state p.states)) → count ≡ length s.handlers
+  pub own_doors : (first count : ℕ) → first ≡ length (flat_map (λ (x : State). x.handlers) (take state p.states)) →
+      count ≡ length s.handlers
       → StateDoors p code state s.handlers (take count (drop first code.doors))
   own_doors first count begins many =
       let ds = code.doors in
@@ -146,15 +177,23 @@ module _ (p : Protocol) (code : Code) (order : IsInOrder p code) (state : ℕ) (
       let c = drop count (drop first ds) in
       let long : length before ≡ first = length-signs p 0 (take state p.states) ∙ sym begins in
       let wide : length here ≡ count = length-map s.handlers (sign_in p state) ∙ sym many in
-      let in_a : map sign_of a ≡ before = sym (take-map sign_of first ds) ∙ ap (take first) parts ∙ take_at before (here ++ after) first long in
-      let rest : map sign_of (drop first ds) ≡ here ++ after = sym (drop-map sign_of first ds) ∙ ap (drop first) parts ∙ drop_at before (here ++ after) first long in
-      let in_b : map sign_of b ≡ here = sym (take-map sign_of count (drop first ds)) ∙ ap (take count) rest ∙ take_at here after count wide in
-      let in_c : map sign_of c ≡ after = sym (drop-map sign_of count (drop first ds)) ∙ ap (drop count) rest ∙ drop_at here after count wide in
-      let whole : ds ≡ a ++ (b ++ c) = sym (take-append-drop first ds) ∙ ap (λ xs. a ++ xs) (sym (take-append-drop count (drop first ds))) in
+      let in_a : map sign_of a ≡ before = sym (take-map sign_of first ds) ∙ ap (take first) parts
+      ∙ take_at before (here ++ after) first long in
+      let rest : map sign_of (drop first ds) ≡ here ++ after = sym (drop-map sign_of first ds) ∙ ap (drop first) parts
+      ∙ drop_at before (here ++ after) first long in
+      let in_b : map sign_of b ≡ here = sym (take-map sign_of count (drop first ds)) ∙ ap (take count) rest
+      ∙ take_at here after count wide in
+      let in_c : map sign_of c ≡ after = sym (drop-map sign_of count (drop first ds)) ∙ ap (drop count) rest
+      ∙ drop_at here after count wide in
+      let whole : ds ≡ a ++ (b ++ c) = sym (take-append-drop first ds)
+      ∙ ap (λ xs. a ++ xs) (sym (take-append-drop count (drop first ds))) in
       let few : 0 + length (take state p.states) ≤ state = omega (arith, length-take state p.states) in
-      let off_a : Each (IsOff state) (map sign_of a) = subst (Each (IsOff state)) (sym in_a) (off_before p 0 state (take state p.states) few) in
-      let off_c : Each (IsOff state) (map sign_of c) = subst (Each (IsOff state)) (sym in_c) (off_after p (state + 1) state (drop (suc state) p.states) (omega arith)) in
-      let own : Each (λ (x : Sign). x.state ≡ state) (map sign_of b) = subst (Each (λ (x : Sign). x.state ≡ state)) (sym in_b) (own_signs p state s.handlers) in
+      let off_a : Each (IsOff state) (map sign_of a) = subst (Each (IsOff state)) (sym in_a)
+      (off_before p 0 state (take state p.states) few) in
+      let off_c : Each (IsOff state) (map sign_of c) = subst (Each (IsOff state)) (sym in_c)
+      (off_after p (state + 1) state (drop (suc state) p.states) (omega arith)) in
+      let own : Each (λ (x : Sign). x.state ≡ state) (map sign_of b) =
+      subst (Each (λ (x : Sign). x.state ≡ state)) (sym in_b) (own_signs p state s.handlers) in
       record {
         signs = in_b;
         found = λ test.
@@ -163,20 +202,29 @@ module _ (p : Protocol) (code : Code) (order : IsInOrder p code) (state : ℕ) (
       }
 
 -- a state that a door is for is declared
-pub state_there : (p : Protocol) (code : Code) (state : ℕ) (kind : Kind) → IsInOrder p code → IsSome (door_for code state kind) → state < length p.states
+pub state_there : (p : Protocol) (code : Code) (state : ℕ) (kind : Kind) → IsInOrder p code →
+    IsSome (door_for code state kind) → state < length p.states
 state_there p code state kind order some =
     ⊎_elim (λ low. low) (λ high.
-    let off : Each (IsOff state) (map sign_of code.doors) = subst (Each (IsOff state)) (sym order) (off_before p 0 state p.states (omega (arith, high))) in
+    let off : Each (IsOff state) (map sign_of code.doors) = subst (Each (IsOff state)) (sym order)
+    (off_before p 0 state p.states (omega (arith, high))) in
     let none : door_for code state kind ≡ None =
-    ap (λ o. door_or o (find (opens state is_for_all_else) code.doors)) (none_off (is_for kind) state code.doors off) ∙ none_off is_for_all_else state code.doors off in
+    ap (λ o. door_or o (find (opens state is_for_all_else) code.doors)) (none_off (is_for kind) state code.doors off)
+    ∙ none_off is_for_all_else state code.doors off in
     let no : false ≡ true = subst (λ (o : Option Door). IsSome o) none some in
     absurd (cc)) (cases_lt state (length p.states))
 
 few_before : (ss : List State) (n : ℕ) → length (handlers_of (take n ss)) ≤ length (handlers_of ss)
 few_before ss n =
-    omega (arith, ap (λ xs. length (handlers_of xs)) (take-append-drop n ss), ap length (flat_map-append (λ (s : State). s.handlers) (take n ss) (drop n ss)), length-append (handlers_of (take n ss)) (handlers_of (drop n ss)))
+    omega (
+      arith,
+      ap (λ xs. length (handlers_of xs)) (take-append-drop n ss),
+      ap length (flat_map-append (λ (s : State). s.handlers) (take n ss) (drop n ss)),
+      length-append (handlers_of (take n ss)) (handlers_of (drop n ss)),
+    )
 
-pub few_handlers : (p : Protocol) (n : ℕ) (ss : List State) → IsAccepted p → ss ≡ p.states → length (flat_map (λ (s : State). s.handlers) (take n ss)) ≤ 1024
+pub few_handlers : (p : Protocol) (n : ℕ) (ss : List State) → IsAccepted p → ss ≡ p.states →
+    length (flat_map (λ (s : State). s.handlers) (take n ss)) ≤ 1024
 few_handlers p n ss a is = omega (arith, few_before ss n, ap (λ xs. length (handlers_of xs)) is, a.tree.few_handlers)
 
 item_of : {X : Type 0} (xs : List X) (k : ℕ) → k < length xs → (x : X) × (slice_get xs k ≡ Some x)
@@ -189,13 +237,15 @@ pub doors_few : (p : Protocol) (code : Code) → IsAccepted p → IsInOrder p co
 doors_few p code a order =
     omega (arith, sym (length-map code.doors sign_of), ap length order, length-signs p 0 p.states, a.tree.few_handlers)
 
-module _ (p : Protocol) (code : Code) (state first : ℕ) (order : IsInOrder p code) (low : state < length p.states) (begins : first ≡ length (flat_map (λ (s : State). s.handlers) (take state p.states))) where
+module _ (p : Protocol) (code : Code) (state first : ℕ) (order : IsInOrder p code) (low : state < length p.states)
+    (begins : first ≡ length (flat_map (λ (s : State). s.handlers) (take state p.states))) where
   pub doors_there : first + length (handlers_at (slice_get p.states state)) ≤ length code.doors
   doors_there =
       let s = item_of p.states state low in
       omega (arith, doors_within p code order state s.0 s.1 first begins, ap (λ (o : Option State). length (handlers_at o)) s.1)
 
-  pub state_doors : (count : ℕ) → count ≡ length (handlers_at (slice_get p.states state)) → StateDoors p code state (handlers_at (slice_get p.states state)) (take count (drop first code.doors))
+  pub state_doors : (count : ℕ) → count ≡ length (handlers_at (slice_get p.states state)) →
+      StateDoors p code state (handlers_at (slice_get p.states state)) (take count (drop first code.doors))
   state_doors count many =
       let s = item_of p.states state low in
       subst (λ (o : Option State). StateDoors p code state (handlers_at o) (take count (drop first code.doors))) (sym s.1)
@@ -220,7 +270,8 @@ kinds_apart : (test : Kind2 → Bool) (a b : Kind2) → test a ≡ false → tes
 kinds_apart test on.RdFault on.RdFault f t = absurd (cc)
 kinds_apart test on.WrFault on.WrFault f t = absurd (cc)
 kinds_apart test on.Default on.Default f t = absurd (cc)
-kinds_apart test (on.Named m) (on.Named n) f t = apart m n (λ e. let h : test (on.Named m) ≡ test (on.Named n) = ap (λ k. test (on.Named k)) e in cc)
+kinds_apart test (on.Named m) (on.Named n) f t = apart m n (λ e. let h : test (on.Named m)
+    ≡ test (on.Named n) = ap (λ k. test (on.Named k)) e in cc)
 kinds_apart test _ _ f t = refl
 
 same_self : (a : Kind2) → same_kind a a ≡ true
@@ -243,21 +294,24 @@ module _ (p : Protocol) (state : ℕ) (hs : List Handler) (own : List Door) (sig
   signed : (j : ℕ) (d : Door) (h : Handler) → slice_get own j ≡ Some d → slice_get hs j ≡ Some h → sign_of d ≡ sign_in p state h
   signed j d h a b =
       let both : Some (sign_of d) ≡ Some (sign_in p state h) =
-      sym (ap (option_map sign_of) a) ∙ sym (slice_get-map sign_of own j) ∙ ap (λ xs. slice_get xs j) signs ∙ slice_get-map (sign_in p state) hs j ∙ ap (option_map (sign_in p state)) b in
+      sym (ap (option_map sign_of) a) ∙ sym (slice_get-map sign_of own j) ∙ ap (λ xs. slice_get xs j) signs
+      ∙ slice_get-map (sign_in p state) hs j ∙ ap (option_map (sign_in p state)) b in
       cc
 
   pub as_many : length own ≡ length hs
   as_many = sym (length-map own sign_of) ∙ ap length signs ∙ length-map hs (sign_in p state)
 
   -- the handler at the place of the first door that passes a test is the one that the door leads to
-  leads : (test : Kind2 → Bool) (k : ℕ) (d : Door) (h : Handler) → position (λ (x : Door). test x.on) own ≡ Some k → d ≡ get_or own k d → slice_get hs k ≡ Some h
+  leads : (test : Kind2 → Bool) (k : ℕ) (d : Door) (h : Handler) → position (λ (x : Door). test x.on) own ≡ Some k →
+      d ≡ get_or own k d → slice_get hs k ≡ Some h
       → find (λ x. same_kind (kind_of p x.on) d.on) hs ≡ Some h
   leads test k d h e is there =
       let facts = position-Some (λ (x : Door). test x.on) own k d e in
       let passes_it : test d.on ≡ true = ap (λ (x : Door). test x.on) is ∙ facts.1 in
       let it : slice_get own k ≡ Some d = slice_get-get_or own k d facts.0 ∙ ap Some (sym is) in
       let same : d.on ≡ kind_of p h.on = ap (λ s. s.on) (signed k d h it there) in
-      first_found (λ x. same_kind (kind_of p x.on) d.on) hs k h there (ap (λ x. same_kind x d.on) (sym same) ∙ same_self d.on) (λ j x low at.
+      first_found (λ x. same_kind (kind_of p x.on) d.on) hs k h there (ap (λ x. same_kind x d.on) (sym same) ∙ same_self d.on)
+      (λ j x low at.
       let one : slice_get own j ≡ Some (get_or own j d) = slice_get-get_or own j d (omega (arith, low, facts.0)) in
       let kind : (get_or own j d).on ≡ kind_of p x.on = ap (λ s. s.on) (signed j (get_or own j d) x one at) in
       kinds_apart test (kind_of p x.on) d.on (ap test (sym kind) ∙ facts.2 j low) passes_it)
@@ -265,7 +319,8 @@ module _ (p : Protocol) (state : ℕ) (hs : List Handler) (own : List Door) (sig
 no_door : Door
 no_door = record { state = 0; on = on.Default; at = 0; slots = 0 }
 
-within : (kind : Kind) (own : List Door) (own_place default_place : Option ℕ) → position (λ d. is_for kind d.on) own ≡ own_place → position (λ d. is_for_all_else d.on) own ≡ default_place
+within : (kind : Kind) (own : List Door) (own_place default_place : Option ℕ) →
+    position (λ d. is_for kind d.on) own ≡ own_place → position (λ d. is_for_all_else d.on) own ≡ default_place
     → (k : ℕ) → option_or own_place default_place ≡ Some k → k < length own
 within kind own (Some j) other a b k e = (position-Some (λ (x : Door). is_for kind x.on) own k no_door (a ∙ e)).0
 within kind own None other a b k e = (position-Some (λ (x : Door). is_for_all_else x.on) own k no_door (b ∙ e)).0
@@ -273,61 +328,73 @@ within kind own None other a b k e = (position-Some (λ (x : Door). is_for_all_e
 pub place_within : (kind : Kind) (own : List Door) (k : ℕ) → place_for kind own ≡ Some k → k < length own
 place_within kind own k e = within kind own _ _ refl refl k e
 
-module _ (p : Protocol) (code : Code) (state : ℕ) (own : List Door) (doors : StateDoors p code state (handlers_at (slice_get p.states state)) own) (kind : Kind) where
+module _ (p : Protocol) (code : Code) (state : ℕ) (own : List Door)
+    (doors : StateDoors p code state (handlers_at (slice_get p.states state)) own) (kind : Kind) where
   abbrev handlers : List Handler
   handlers = handlers_at (slice_get p.states state)
 
   found_for : door_for code state kind ≡ door_or (find (λ d. is_for kind d.on) own) (find (λ d. is_for_all_else d.on) own)
   found_for =
-      ap (λ o. door_or o (find (opens state is_for_all_else) code.doors)) (doors.found (is_for kind)) ∙ ap (door_or (find (λ d. is_for kind d.on) own)) (doors.found is_for_all_else)
+      ap (λ o. door_or o (find (opens state is_for_all_else) code.doors)) (doors.found (is_for kind))
+      ∙ ap (door_or (find (λ d. is_for kind d.on) own)) (doors.found is_for_all_else)
 
   locals_are : (d : Door) (h : Handler) (k : ℕ) → d ≡ get_or own k d → k < length own → slice_get handlers k ≡ Some h
       → find (λ x. same_kind (kind_of p x.on) d.on) handlers ≡ Some h → h.locals ≡ locals_of p d
   locals_are d h k is_d low there e =
       let it : slice_get own k ≡ Some d = slice_get-get_or own k d low ∙ ap Some (sym is_d) in
       let number : d.state ≡ state = ap (λ x. x.state) (signed p state handlers own doors.signs k d h it there) in
-      sym (ap (λ (hs : List Handler). locals_at (find (λ x. same_kind (kind_of p x.on) d.on) hs)) (ap (λ n. handlers_at (slice_get p.states n)) number) ∙ ap locals_at e)
+      sym (ap (λ (hs : List Handler). locals_at (find (λ x. same_kind (kind_of p x.on) d.on) hs))
+      (ap (λ n. handlers_at (slice_get p.states n)) number) ∙ ap locals_at e)
 
-  by_place : (own_place default_place : Option ℕ) → position (λ d. is_for kind d.on) own ≡ own_place → position (λ d. is_for_all_else d.on) own ≡ default_place
-      → (k : ℕ) → option_or own_place default_place ≡ Some k → (d : Door) (h : Handler) → d ≡ get_or own k d → slice_get handlers k ≡ Some h → Leads p code state kind d h
+  by_place : (own_place default_place : Option ℕ) → position (λ d. is_for kind d.on) own ≡ own_place →
+      position (λ d. is_for_all_else d.on) own ≡ default_place
+      → (k : ℕ) → option_or own_place default_place ≡ Some k → (d : Door) (h : Handler) → d ≡ get_or own k d →
+      slice_get handlers k ≡ Some h → Leads p code state kind d h
   by_place (Some j) other a b k e d h is_d there =
       let same : j ≡ k = cc in
       let place : position (λ (x : Door). is_for kind x.on) own ≡ Some k = a ∙ e in
       let low : k < length own = (position-Some (λ (x : Door). is_for kind x.on) own k d place).0 in
       record {
-        door = found_for ∙ ap (λ o. door_or o (find (λ x. is_for_all_else x.on) own)) (at_place (λ x. is_for kind x.on) own k d place ∙ ap Some (sym is_d));
+        door = found_for ∙ ap (λ o. door_or o (find (λ x. is_for_all_else x.on) own))
+            (at_place (λ x. is_for kind x.on) own k d place ∙ ap Some (sym is_d));
         locals = locals_are d h k is_d low there (leads p state handlers own doors.signs (is_for kind) k d h place is_d there);
       }
   by_place None other a b k e d h is_d there =
       let place : position (λ (x : Door). is_for_all_else x.on) own ≡ Some k = b ∙ e in
       let low : k < length own = (position-Some (λ (x : Door). is_for_all_else x.on) own k d place).0 in
       record {
-        door = found_for ∙ ap (λ o. door_or o (find (λ x. is_for_all_else x.on) own)) (no_place (λ x. is_for kind x.on) own a) ∙ at_place (λ x. is_for_all_else x.on) own k d place ∙ ap Some (sym is_d);
+        door = found_for ∙ ap (λ o. door_or o (find (λ x. is_for_all_else x.on) own)) (no_place (λ x. is_for kind x.on) own a)
+            ∙ at_place (λ x. is_for_all_else x.on) own k d place ∙ ap Some (sym is_d);
         locals = locals_are d h k is_d low there (leads p state handlers own doors.signs is_for_all_else k d h place is_d there);
       }
 
-  nowhere : (own_place default_place : Option ℕ) → position (λ d. is_for kind d.on) own ≡ own_place → position (λ d. is_for_all_else d.on) own ≡ default_place
+  nowhere : (own_place default_place : Option ℕ) → position (λ d. is_for kind d.on) own ≡ own_place →
+      position (λ d. is_for_all_else d.on) own ≡ default_place
       → option_or own_place default_place ≡ None → door_for code state kind ≡ None
   nowhere (Some j) other a b e = absurd (cc)
   nowhere None other a b e =
-      found_for ∙ ap (λ o. door_or o (find (λ x. is_for_all_else x.on) own)) (no_place (λ x. is_for kind x.on) own a) ∙ no_place (λ x. is_for_all_else x.on) own (b ∙ e)
+      found_for ∙ ap (λ o. door_or o (find (λ x. is_for_all_else x.on) own)) (no_place (λ x. is_for kind x.on) own a)
+      ∙ no_place (λ x. is_for_all_else x.on) own (b ∙ e)
 
   pub no_door_for : place_for kind own ≡ None → door_for code state kind ≡ None
   no_door_for e = nowhere _ _ refl refl e
 
-inside : (ds : List Door) (first count k : ℕ) (d : Door) → slice_get (take count (drop first ds)) k ≡ Some d → slice_get ds (first + k) ≡ Some d
+inside : (ds : List Door) (first count k : ℕ) (d : Door) → slice_get (take count (drop first ds)) k ≡ Some d →
+    slice_get ds (first + k) ≡ Some d
 inside ds first count k d e =
     let low = slice_get_within (take count (drop first ds)) k d e in
     let few : k < count = omega (arith, low, length-take count (drop first ds)) in
     let there : first + k < length ds = omega (arith, low, length-take count (drop first ds), length-drop first ds) in
     slice_get-get_or ds (first + k) d there
-    ∙ ap Some (sym (get_or-drop first ds k d) ∙ sym (get_or-take count (drop first ds) k d few) ∙ get_or_from_slice_get (take count (drop first ds)) k d d e)
+    ∙ ap Some (sym (get_or-drop first ds k d) ∙ sym (get_or-take count (drop first ds) k d few)
+    ∙ get_or_from_slice_get (take count (drop first ds)) k d d e)
 
 -- the place that is found among a state's doors is the door's, behind those of the states before
 pub stands_at :
     (p : Protocol) (code : Code) (state first count : ℕ) (kind : Kind) (place : Place) (k : ℕ)
     → StateDoors p code state (handlers_at (slice_get p.states state)) (take count (drop first code.doors))
-    → place_for kind (take count (drop first code.doors)) ≡ Some k → place.door ≡ first + k → place.handler ≡ k → StandsAt p code state kind place
+    → place_for kind (take count (drop first code.doors)) ≡ Some k → place.door ≡ first + k → place.handler ≡ k →
+    StandsAt p code state kind place
 stands_at p code state first count kind place k doors e at same =
     let own = take count (drop first code.doors) in
     let handlers = handlers_at (slice_get p.states state) in
@@ -342,18 +409,32 @@ stands_at p code state first count kind place k doors e at same =
       leads = by_place p code state own doors kind _ _ refl refl k e d.0 h.0 (sym (get_or_from_slice_get own k d.0 d.0 d.1)) h.1;
     }
 
-module _ (p : Protocol) (code : Code) (state first count : ℕ) (order : IsInOrder p code) (low : state < length p.states) (begins : first ≡ length (flat_map (λ (s : State). s.handlers) (take state p.states))) (many : count ≡ length (handlers_at (slice_get p.states state))) (own doors : List Door) (all : doors ≡ code.doors) (is : own ≡ take count (drop first doors)) (kind : Kind) where
+module _ (p : Protocol) (code : Code) (state first count : ℕ) (order : IsInOrder p code) (low : state < length p.states)
+    (begins : first ≡ length (flat_map (λ (s : State). s.handlers) (take state p.states)))
+    (many : count ≡ length (handlers_at (slice_get p.states state))) (own doors : List Door) (all : doors ≡ code.doors)
+    (is : own ≡ take count (drop first doors)) (kind : Kind) where
   own_is : own ≡ take count (drop first code.doors)
   own_is = is ∙ ap (λ (ds : List Door). take count (drop first ds)) all
 
   pub place_few : (k : ℕ) → IsAccepted p → place_for kind own ≡ Some k → first + k < 1024
   place_few k a e =
-      omega (arith, doors_few p code a order, doors_there p code state first order low begins, place_within kind own k e, ap length own_is, length-take count (drop first code.doors), many)
+      omega (
+        arith,
+        doors_few p code a order,
+        doors_there p code state first order low begins,
+        place_within kind own k e,
+        ap length own_is,
+        length-take count (drop first code.doors),
+        many,
+      )
 
-  pub found_place : (place : Place) (k : ℕ) → place_for kind own ≡ Some k → place.door ≡ first + k → place.handler ≡ k → StandsAt p code state kind place
+  pub found_place : (place : Place) (k : ℕ) → place_for kind own ≡ Some k → place.door ≡ first + k → place.handler ≡ k →
+      StandsAt p code state kind place
   found_place place k e at same =
-      stands_at p code state first count kind place k (state_doors p code state first order low begins count many) (ap (place_for kind) (sym own_is) ∙ e) at same
+      stands_at p code state first count kind place k (state_doors p code state first order low begins count many)
+      (ap (place_for kind) (sym own_is) ∙ e) at same
 
   pub found_none : place_for kind own ≡ None → door_for code state kind ≡ None
   found_none e =
-      no_door_for p code state (take count (drop first code.doors)) (state_doors p code state first order low begins count many) kind (ap (place_for kind) (sym own_is) ∙ e)
+      no_door_for p code state (take count (drop first code.doors))
+      (state_doors p code state first order low begins count many) kind (ap (place_for kind) (sym own_is) ∙ e)

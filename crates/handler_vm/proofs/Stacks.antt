@@ -8,15 +8,19 @@ module _ {X : Type 0} (xs : List X) (start end : ℕ) (low : start ≤ end) (hig
   parts : reverse (take end xs) ≡ reverse (take (end - start) (drop start xs)) ++ reverse (take start xs)
   parts =
       let e : end ≡ start + (end - start) = omega arith in
-      ap (λ n. reverse (take n xs)) e ∙ ap reverse (take-add start (end - start) xs) ∙ reverse-append (take start xs) (take (end - start) (drop start xs))
+      ap (λ n. reverse (take n xs)) e ∙ ap reverse (take-add start (end - start) xs)
+      ∙ reverse-append (take start xs) (take (end - start) (drop start xs))
 
   long : length (reverse (take (end - start) (drop start xs))) ≡ end - start
-  long = length-reverse (take (end - start) (drop start xs)) ∙ length-take-le (end - start) (drop start xs) (omega (arith, length-drop start xs))
+  long = length-reverse (take (end - start) (drop start xs))
+      ∙ length-take-le (end - start) (drop start xs) (omega (arith, length-drop start xs))
 
   -- as many were asked for as are taken
-  pub taken_all : (count : ℕ) → end - start ≡ count → take (end - start) (drop start xs) ≡ reverse (take count (reverse (take end xs)))
+  pub taken_all : (count : ℕ) → end - start ≡ count → take (end - start) (drop start xs)
+      ≡ reverse (take count (reverse (take end xs)))
   taken_all count e =
-      sym (ap (λ ys. reverse (take count ys)) parts ∙ ap reverse (take_at _ (reverse (take start xs)) count (long ∙ e)) ∙ reverse-reverse (take (end - start) (drop start xs)))
+      sym (ap (λ ys. reverse (take count ys)) parts ∙ ap reverse (take_at _ (reverse (take start xs)) count (long ∙ e))
+      ∙ reverse-reverse (take (end - start) (drop start xs)))
 
   pub left_all : (count : ℕ) → end - start ≡ count → reverse (take start xs) ≡ drop count (reverse (take end xs))
   left_all count e = sym (ap (drop count) parts ∙ drop_at _ (reverse (take start xs)) count (long ∙ e))

@@ -14,7 +14,8 @@ use Rattle.handler_vm.specs.Chains.{IsChain, IsFull, records_of, saved_from}
 use Rattle.handler_vm.specs.Inside.{IsSound, IsStop, machine_of}
 use Rattle.handler_vm.proofs.Chaining.{widened_all}
 
-pub stop_is : (p : Protocol) (r : Running) (sent : List Message) (store : Store) (end : End) → IsSound p r store → IsStop p r sent store end (stopped (machine_of p r sent (saved_from p store r.cont)) end)
+pub stop_is : (p : Protocol) (r : Running) (sent : List Message) (store : Store) (end : End) → IsSound p r store →
+    IsStop p r sent store end (stopped (machine_of p r sent (saved_from p store r.cont)) end)
 stop_is p r sent store end s = record {
   around = refl;
   state = refl;
@@ -28,13 +29,16 @@ stop_is p r sent store end s = record {
 }
 
 pub sound_kept :
-    (p : Protocol) (was new : Running) (store : Store) → IsSound p was store → length new.args ≡ state_arity (slice_get p.states new.state) → new.came ≡ was.came
+    (p : Protocol) (was new : Running) (store : Store) → IsSound p was store →
+    length new.args ≡ state_arity (slice_get p.states new.state) → new.came ≡ was.came
     → length new.words ≡ length was.words → new.cont ≡ was.cont → new.records ≡ was.records → IsSound p new store
 sound_kept p was new store s arity came words cont records = record {
   arity = arity;
-  came = subst (λ (o : Option Data). IsFull (length new.words) o) (sym came) (subst (λ (n : ℕ). IsFull n was.came) (sym words) s.came);
+  came = subst (λ (o : Option Data). IsFull (length new.words) o) (sym came)
+      (subst (λ (n : ℕ). IsFull n was.came) (sym words) s.came);
   none_made = subst (λ (n : ℕ). n ≡ 0) (sym records) s.none_made;
-  chain = subst (λ (k : Option RecordKey). IsChain (length new.words) store k) (sym cont) (subst (λ (n : ℕ). IsChain n store was.cont) (sym words) s.chain);
+  chain = subst (λ (k : Option RecordKey). IsChain (length new.words) store k) (sym cont)
+      (subst (λ (n : ℕ). IsChain n store was.cont) (sym words) s.chain);
   spare = s.spare;
 }
 

@@ -13,7 +13,8 @@ pub record Unwound (words : ℕ) (old new : Store) (key : RecordKey) (r : Record
   pub chain : IsChain words new r.parent
   pub whole : IsWholeRecord words r
 
-pub unwound : (words : ℕ) (old new : Store) (key : RecordKey) (r : Record) → IsChain words old (Some key) → record_at old key ≡ Some r → Changes old new key None → Unwound words old new key r
+pub unwound : (words : ℕ) (old new : Store) (key : RecordKey) (r : Record) → IsChain words old (Some key) →
+    record_at old key ≡ Some r → Changes old new key None → Unwound words old new key r
 unwound words old new key r chain e change =
     let n = newest_of chain.named in
     let both : Some n.top ≡ Some r = sym n.named ∙ e in
@@ -24,7 +25,10 @@ unwound words old new key r chain e change =
     let whole : Each (IsWholeRecord words) (n.top ∷ n.older) = subst (Each (IsWholeRecord words)) n.is chain.whole in
     let there : Unwound words old new key n.top = record {
       records = n.is ∙ ap (λ rs. n.top ∷ rs) (sym found);
-      chain = record { named = subst (Chained new n.top.parent) (sym found) rest; whole = subst (Each (IsWholeRecord words)) (sym found) whole.1 };
+      chain = record {
+        named = subst (Chained new n.top.parent) (sym found) rest;
+        whole = subst (Each (IsWholeRecord words)) (sym found) whole.1;
+      };
       whole = whole.0;
     } in
     subst (λ (x : Record). Unwound words old new key x) same there
@@ -33,12 +37,17 @@ pub record Wound (words : ℕ) (new : Store) (key : RecordKey) (r : Record) (rs 
   pub records : records_of new (Some key) ≡ r ∷ rs
   pub chain : IsChain words new (Some key)
 
-pub wound : (words : ℕ) (old new : Store) (cont : Option RecordKey) (key : RecordKey) (r : Record) → IsChain words old cont → record_at old key ≡ None → Changes old new key (Some r)
-    → r.parent ≡ cont → r.depth ≡ length (records_of old cont) + 1 → length (records_of old cont) < 8 → IsWholeRecord words r → Wound words new key r (records_of old cont)
+pub wound : (words : ℕ) (old new : Store) (cont : Option RecordKey) (key : RecordKey) (r : Record) → IsChain words old cont →
+    record_at old key ≡ None → Changes old new key (Some r)
+    → r.parent ≡ cont → r.depth ≡ length (records_of old cont) + 1 → length (records_of old cont) < 8 → IsWholeRecord words r →
+    Wound words new key r (records_of old cont)
 wound words old new cont key r chain free change is d low whole =
     let all : Chained new (Some key) (r ∷ records_of old cont) = put_on free change is d chain.named in
     let found : records_of new (Some key) ≡ r ∷ records_of old cont = chain_is all 8 (omega (arith, low)) in
     record {
       records = found;
-      chain = record { named = subst (Chained new (Some key)) (sym found) all; whole = subst (Each (IsWholeRecord words)) (sym found) (whole, chain.whole) };
+      chain = record {
+        named = subst (Chained new (Some key)) (sym found) all;
+        whole = subst (Each (IsWholeRecord words)) (sym found) (whole, chain.whole);
+      };
     }

@@ -23,10 +23,12 @@ kept_of p cell = record {
 -- the message enters the code at this cell, with its chain and its block, and the machine stops like this
 abbrev pub StopsAt : Protocol → Code → ℕ → ℕ → Cell → Copies → Store → Message → Stopped → Type 0
 StopsAt p code me home cell blocks conts m e =
-    Enters p code me home m.block (tag_of blocks m.block) (block_words blocks m.block) (kept_of p cell) (saved_from p conts cell.cont) m e
+    Enters p code me home m.block (tag_of blocks m.block) (block_words blocks m.block) (kept_of p cell)
+    (saved_from p conts cell.cont) m e
 
 -- the machine stops, after no more ops and with no more sends than are counted
-pub record Stops (p : Protocol) (code : Code) (me home : ℕ) (cell : Cell) (blocks : Copies) (conts : Store) (m : Message) : Type 0 where
+pub record Stops (p : Protocol) (code : Code) (me home : ℕ) (cell : Cell) (blocks : Copies) (conts : Store)
+    (m : Message) : Type 0 where
   pub stop : Stopped
   pub stops : StopsAt p code me home cell blocks conts m stop
   pub ops : stop.ops < 2 ^ 64 - 1
@@ -59,7 +61,8 @@ abbrev pub written : Copies → ℕ → Stopped → Copies
 written blocks block e = with_block (with_tag blocks block e.around.tag) block e.around.words
 
 -- What a run leaves where the machine stops like this: the stop's own sends, cell, chain and block.
-pub record Leaves (p : Protocol) (me : ℕ) (m : Message) (old new : Cell) (blocks after : Copies) (conts : Store) (sent : List Message) (ran : Ran) (e : Stopped) : Type 0 where
+pub record Leaves (p : Protocol) (me : ℕ) (m : Message) (old new : Cell) (blocks after : Copies) (conts : Store)
+    (sent : List Message) (ran : Ran) (e : Stopped) : Type 0 where
   pub result : ran ≡ ran_of e
   pub cell : HasState p old new e
   pub chain : saved_from p conts new.cont ≡ map widened e.chain

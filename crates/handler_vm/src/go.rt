@@ -36,7 +36,8 @@ impl Running {
             ≡ Next (machine_with p.now self.new unsent.new conts.new)) }
         ensures sound { IfNone result (IsSound p.now self.new conts.new) }
         ensures spares { IfNone result (Spares conts.old conts.new self.old.cont self.new.cont) }
-        ensures over { IfSome result (λ end. (e : Stopped) × (move_of p.now code.now (machine_with p.now self.old unsent.old conts.old) ≡ Stop e)
+        ensures over { IfSome result (λ end. (e : Stopped) × (move_of p.now code.now (machine_with p.now self.old unsent.old conts.old)
+            ≡ Stop e)
             × IsStop p.now self.new unsent.new.sent conts.new end e) }
         ensures others { OnSome result (KeepsOthersFrom (length self.old.words) conts.old conts.new self.old.cont self.new.cont) }
         ensures unsent { StaysUnsent p.now self.old unsent.old unsent.new }

@@ -48,7 +48,8 @@ fn enter(
     requires locals { entry.now.handler.now.locals ≡ locals_of p.now entry.now.door.now }
     requires declared { cell.now.state < length p.now.states }
     requires block { m.now.block < blocks.now.shape.blocks }
-    ensures run { run.new ≡ begun p.now entry.now.door.now me home (tag_of blocks.now m.now.block) (block_words blocks.now m.now.block) cell.now m.now }
+    ensures run { run.new ≡ begun p.now entry.now.door.now me home (tag_of blocks.now m.now.block)
+        (block_words blocks.now m.now.block) cell.now m.now }
     ensures words { length (block_words blocks.now m.now.block) ≡ blocks.now.shape.words }
     ensures places { length cell.now.args ≡ 4 }
 {
@@ -75,7 +76,14 @@ fn enter(
 
 /// Keeps what a run left of its cell.
 fn leave(r: &Running, cell: &mut Cell, end: End) -> Ran
-    ensures result { result ≡ record { kept = r.now.kept; freed = r.now.freed; woke = r.now.woke; end = end; ops = r.now.ops; records = r.now.records } }
+    ensures result { result ≡ record {
+      kept = r.now.kept;
+      freed = r.now.freed;
+      woke = r.now.woke;
+      end = end;
+      ops = r.now.ops;
+      records = r.now.records;
+    } }
     ensures cell { cell.new ≡ record { state = r.now.state; args = filled 4 r.now.args; cont = r.now.cont; infos = r.now.infos } }
 {
     cell.state = r.state;
@@ -116,7 +124,8 @@ fn run_at(
     requires block { m.now.block < blocks.old.shape.blocks }
     requires full { IsFull blocks.old.shape.words m.now.payload }
     ensures leaves { (e : Stopped)
-        × Runs p.now code.now (entered p.now entry.now.door.now me home m.now.block (tag_of blocks.old m.now.block) (block_words blocks.old m.now.block) (kept_of p.now cell.old) (saved_from p.now conts.old cell.old.cont) m.now) e
+        × Runs p.now code.now (entered p.now entry.now.door.now me home m.now.block (tag_of blocks.old m.now.block)
+        (block_words blocks.old m.now.block) (kept_of p.now cell.old) (saved_from p.now conts.old cell.old.cont) m.now) e
         × Leaves p.now me m.now cell.old cell.new blocks.old blocks.new conts.new unsent.new.sent result e }
     ensures chain { IsChain blocks.old.shape.words conts.new cell.new.cont }
     ensures others { KeepsOthers conts.old conts.new cell.old.cont cell.new.cont }
@@ -157,7 +166,8 @@ pub fn run(
     requires block { m.now.block < blocks.old.shape.blocks }
     requires full { IsFull blocks.old.shape.words m.now.payload }
 
-    ensures leaves { (e : Stopped) → StopsAt p.now code.now me home cell.old blocks.old conts.old m.now e → Leaves p.now me m.now cell.old cell.new blocks.old blocks.new conts.new around.new.sent result e }
+    ensures leaves { (e : Stopped) → StopsAt p.now code.now me home cell.old blocks.old conts.old m.now e →
+        Leaves p.now me m.now cell.old cell.new blocks.old blocks.new conts.new around.new.sent result e }
 
     // The chain is whole again, and all other records stay.
     ensures chain { IsChain blocks.old.shape.words conts.new cell.new.cont }

@@ -84,7 +84,8 @@ impl Running {
         requires saved { rest < length code.now.rests }
         requires enough { state_arity (slice_get p.now.states state) ≤ length self.old.stack }
         requires low { length (records_of conts.old self.old.cont) < 8 }
-        ensures stop { (sent : List Message) → let m = machine_of p.now self.old sent (saved_from p.now conts.old self.old.cont) in
+        ensures stop { (sent : List Message) → let m = machine_of p.now self.old sent
+            (saved_from p.now conts.old self.old.cont) in
             let args = reverse (take (state_arity (slice_get p.now.states state)) self.old.stack) in
             IsStop p.now self.new sent conts.new End.Fine (stopped (suspended code.now m state args rest) End.Fine) }
         ensures words { length self.new.words ≡ length self.old.words }

@@ -106,7 +106,10 @@ impl Running {
     pub(crate) fn put(&mut self, k: u8)
         requires enough { 0 < length self.old.stack }
         requires there { k < length self.old.slots }
-        ensures { self.new ≡ record self.old { slots = slice_set self.old.slots k (top self.old.stack); stack = below self.old.stack } }
+        ensures { self.new ≡ record self.old {
+          slots = slice_set self.old.slots k (top self.old.stack);
+          stack = below self.old.stack;
+        } }
     {
         let value = self.stack.pop();
         self.slots.set(k, value);
@@ -116,7 +119,10 @@ impl Running {
     pub(crate) fn put_info(&mut self, k: u8)
         requires enough { 0 < length self.old.stack }
         requires there { k < 8 }
-        ensures { self.new ≡ record self.old { infos = slice_set self.old.infos k (top self.old.stack); stack = below self.old.stack } }
+        ensures { self.new ≡ record self.old {
+          infos = slice_set self.old.infos k (top self.old.stack);
+          stack = below self.old.stack;
+        } }
     {
         let value = self.stack.pop();
         self.infos[usize::from(k)] = value;

@@ -102,7 +102,9 @@ impl Running {
             in self.new ≡ record self.old { stack = below (drop count self.old.stack) } }
         ensures sent { let count = message_arity (slice_get p.now.messages number) in
             let payload = payload_of (slice_get p.now.messages number) self.old.words
-            in map out_of unsent.new.sent ≡ map out_of unsent.old.sent ++ out_to number (reverse (take count self.old.stack)) payload (node_of (top (drop count self.old.stack))) ∷ [] }
+            in map out_of unsent.new.sent ≡ map out_of unsent.old.sent
+            ++ out_to number (reverse (take count self.old.stack)) payload
+            (node_of (top (drop count self.old.stack))) ∷ [] }
         ensures unsent { StaysUnsent p.now self.old unsent.old unsent.new }
         ensures room { unsent.new.room ≡ unsent.old.room }
     {
@@ -123,7 +125,9 @@ impl Running {
             in self.new ≡ record self.old { stack = below (drop count self.old.stack) } }
         ensures sent { let count = message_arity (slice_get p.now.messages number) in
             let payload = payload_of (slice_get p.now.messages number) self.old.words
-            in map out_of unsent.new.sent ≡ map out_of unsent.old.sent ++ map (out_to number (reverse (take count self.old.stack)) payload) (nodes_in (set_of (top (drop count self.old.stack)))) }
+            in map out_of unsent.new.sent ≡ map out_of unsent.old.sent
+            ++ map (out_to number (reverse (take count self.old.stack)) payload)
+            (nodes_in (set_of (top (drop count self.old.stack)))) }
         ensures unsent { StaysUnsent p.now self.old unsent.old unsent.new }
         ensures room { unsent.new.room ≡ unsent.old.room }
     {

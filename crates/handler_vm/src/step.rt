@@ -23,8 +23,10 @@ impl Running {
         requires declared { state < length p.now.states }
         requires saved { rest < length code.now.rests }
         requires enough { state_arity (slice_get p.now.states state) ≤ length self.old.stack }
-        ensures stop { (sent : List Message) → let m = machine_of p.now self.old sent (saved_from p.now conts.old self.old.cont) in
-            (e : Stopped) × (act p.now code.now (OpCode.Suspend state rest) m ≡ Stop e) × IsStop p.now self.new sent conts.new result e }
+        ensures stop { (sent : List Message) → let m = machine_of p.now self.old sent
+            (saved_from p.now conts.old self.old.cont) in
+            (e : Stopped) × (act p.now code.now (OpCode.Suspend state rest) m ≡ Stop e)
+            × IsStop p.now self.new sent conts.new result e }
         ensures others { KeepsOthersFrom (length self.old.words) conts.old conts.new self.old.cont self.new.cont }
         ensures block { SameBlock p.now self.old self.new }
         ensures words { length self.new.words ≡ length self.old.words }
@@ -54,12 +56,14 @@ impl Running {
         requires enough { taken_by p.now op ≤ length self.old.stack }
         requires there { IsThere p.now code.now (length self.old.slots) op }
         requires fits { length self.old.stack + put_by op ≤ 24 + taken_by p.now op }
-        requires room { OnNext (λ n. length n.around.sends ≤ unsent.old.room) (act p.now code.now op (machine_with p.now self.old unsent.old conts.old)) }
+        requires room { OnNext (λ n. length n.around.sends ≤ unsent.old.room)
+            (act p.now code.now op (machine_with p.now self.old unsent.old conts.old)) }
         ensures on { IfNone result (act p.now code.now op (machine_with p.now self.old unsent.old conts.old)
             ≡ Next (machine_with p.now self.new unsent.new conts.new)) }
         ensures sound { IfNone result (IsSound p.now self.new conts.new) }
         ensures spares { IfNone result (Spares conts.old conts.new self.old.cont self.new.cont) }
-        ensures over { IfSome result (λ end. (e : Stopped) × (act p.now code.now op (machine_with p.now self.old unsent.old conts.old) ≡ Stop e)
+        ensures over { IfSome result (λ end. (e : Stopped) × (act p.now code.now op (machine_with p.now self.old unsent.old conts.old)
+            ≡ Stop e)
             × IsStop p.now self.new unsent.new.sent conts.new end e) }
         ensures others { OnSome result (KeepsOthersFrom (length self.old.words) conts.old conts.new self.old.cont self.new.cont) }
         ensures unsent { StaysUnsent p.now self.old unsent.old unsent.new }

@@ -1,4 +1,5 @@
-ghost use Rattle.std.specs.Prelude.{◌≡◌, ◌∷◌, ◌+◌, ◌^◌, ◌<◌, ◌≤◌, List, MatchOption, drop, length, reverse, slice_get, slice_set, take, true};
+ghost use Rattle.std.specs.Prelude.{◌≡◌, ◌∷◌, ◌+◌, ◌^◌, ◌<◌, ◌≤◌, List, MatchOption, drop, length, reverse, slice_get};
+ghost use Rattle.std.specs.Prelude.{slice_set, take, true};
 ghost use Rattle.tw_base.specs.NodeSets.{without};
 ghost use Rattle.tw_base.specs.declared.message.Message.{Message};
 ghost use Rattle.teapot_meaning.specs.Steps.{freed_kept, least_of, set_of};
@@ -72,7 +73,11 @@ impl Running {
     fn two(&mut self, op: Op)
         requires enough { 2 ≤ length self.old.stack }
         requires most { length self.old.stack ≤ 24 }
-        ensures { self.new ≡ record self.old { stack = two_of op (top (below self.old.stack)) (top self.old.stack) ∷ below (below self.old.stack) } }
+        ensures { self.new
+            ≡ record self.old {
+              stack = two_of op (top (below self.old.stack)) (top self.old.stack) ∷ below
+                  (below self.old.stack);
+            } }
     {
         let second = self.pop();
         let first = self.pop();
@@ -85,7 +90,13 @@ impl Running {
         requires declared { state < length p.now.states }
         requires enough { state_arity (slice_get p.now.states state) ≤ length self.old.stack }
         ensures { let count = state_arity (slice_get p.now.states state) in
-            self.new ≡ record self.old { freed = true; kept = freed_kept self.old.kept; state = state; args = reverse (take count self.old.stack); stack = drop count self.old.stack } }
+            self.new ≡ record self.old {
+              freed = true;
+              kept = freed_kept self.old.kept;
+              state = state;
+              args = reverse (take count self.old.stack);
+              stack = drop count self.old.stack;
+            } }
     {
         let args = self.take(state_arity(p, state));
         self.free();
@@ -100,7 +111,11 @@ impl Running {
         ensures { let set = set_of (value_at self.old.slots h) in
             MatchOption (least_of set)
             (self.new ≡ record self.old { at = to })
-            (λ n. self.new ≡ record self.old { slots = slice_set (slice_set self.old.slots k (Value.Node n)) h (Value.Set (without set n)) }) }
+            (λ n. self.new
+            ≡ record self.old {
+              slots = slice_set (slice_set self.old.slots k (Value.Node n)) h
+                  (Value.Set (without set n));
+            }) }
     {
         let set = set_of(self.slots.get(h));
         match least_of(set) {

@@ -1,5 +1,6 @@
 -- The numbers of a program that is read off lines of numbers of 64 bits.
-use Rattle.std.proofs.Common.{◌≡◌, ◌∙◌, ℕ, zero, suc, ◌+◌, ◌≤◌, ◌==◌, cond, Bool, true, false, List, [], ◌∷◌, ◌++◌, length, Option, Some, None, Result, Ok, refl, sym, subst, arith, length-append}
+use Rattle.std.proofs.Common.{◌≡◌, ◌∙◌, ℕ, zero, suc, ◌+◌, ◌≤◌, ◌==◌, cond, Bool, true, false, List, [], ◌∷◌, ◌++◌, length}
+use Rattle.std.proofs.Common.{Option, Some, None, Result, Ok, refl, sym, subst, arith, length-append}
 use Rattle.std.specs.Prelude.{slice_get}
 use Rattle.std.specs.List.{filter}
 use Rattle.tw_base.specs.Answers.{◌>>?◌}
@@ -14,13 +15,17 @@ use Rattle.mini_asm.specs.declared.form.Written.{Written}
 use Rattle.mini_asm.specs.declared.instr.Instr.{Instr}
 use Rattle.mini_asm.specs.declared.instr.Instr.TheVariants as i
 use Rattle.mini_asm.specs.declared.instr.Keyword.{Keyword}
-use Rattle.mini_asm.specs.declared.instr.Keyword.TheVariants.{Li, Mov, Add, Sub, And, Or, Xor, Ld, St, Beq, Bne, Blt, Jmp, Print, Halt, Faa}
+use Rattle.mini_asm.specs.declared.instr.Keyword.TheVariants.{Li, Mov, Add, Sub, And, Or, Xor, Ld, St, Beq, Bne, Blt, Jmp}
+use Rattle.mini_asm.specs.declared.instr.Keyword.TheVariants.{Print, Halt, Faa}
 use Rattle.mini_asm.specs.declared.parse.ProgramError.{ProgramError}
 use Rattle.mini_asm.specs.declared.parse.ProgramError.TheVariants.{LabelTwice, TooLong}
-use Rattle.mini_asm.specs.Assembled.{assembled, code_count, code_line, code_of, codes_of, is_code, is_code_form, jump_to, or_no_label, place_of, program_of, refuse, twice, written_of}
+use Rattle.mini_asm.specs.Assembled.{assembled, code_count, code_line, code_of, codes_of, is_code, is_code_form, jump_to}
+use Rattle.mini_asm.specs.Assembled.{or_no_label, place_of, program_of, refuse, twice, written_of}
 use Rattle.mini_asm.specs.Laws.{IsRead, Pairwise}
 use Rattle.mini_asm.specs.Programs.{GoesWithin}
-use Rattle.mini_asm.specs.Spelling.{form_of, has_one_label, instr_of, instr_with, is_of_version, keyword_at, label_of, label_or, number_at, number_of_token, one_register, register_address, register_at, register_number, target_of, three_registers, two_registers, two_registers_address, two_registers_label}
+use Rattle.mini_asm.specs.Spelling.{form_of, has_one_label, instr_of, instr_with, is_of_version, keyword_at, label_of, label_or}
+use Rattle.mini_asm.specs.Spelling.{number_at, number_of_token, one_register, register_address, register_at, register_number}
+use Rattle.mini_asm.specs.Spelling.{target_of, three_registers, two_registers, two_registers_address, two_registers_label}
 use Rattle.mini_asm.proofs.Codes.{bind_ok, place_of-le}
 use Rattle.mini_asm.proofs.Places.{code_count-few}
 use Rattle.mini_asm.proofs.Spelled.{lines-read}

@@ -7,7 +7,8 @@ use Rattle.tw_base.specs.declared.entry.Entry.{Entry}
 use Rattle.journal.specs.Laws.{ReportPrints, print_text, prints_of, with_print}
 use Rattle.journal.specs.Reports.{print_line, print_of, report_of}
 
-one_print : (node : ℕ) (a : Act) (rest : List (ℕ × ℕ)) → flat_map print_text (with_print node a rest) ≡ print_of node a ++ flat_map print_text rest
+one_print : (node : ℕ) (a : Act) (rest : List (ℕ × ℕ)) → flat_map print_text (with_print node a rest) ≡ print_of node a
+    ++ flat_map print_text rest
 one_print node (act.Print value) rest = refl
 one_print node (act.Load address value) rest = refl
 one_print node (act.Store address value) rest = refl

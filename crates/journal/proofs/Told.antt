@@ -25,15 +25,24 @@ stores_load ReadOnly h = refl
 stores_load Invalid h = absurd cc
 
 -- where some node may read a block, the node whose copy is told may
-teller_reads : (s : Setup) (g : World) (b i : ℕ) → i < s.shape.nodes → permits ((g.locals i).blocks b).tag false ≡ true → (teller s g b < s.shape.nodes) × (permits ((g.locals (teller s g b)).blocks b).tag false ≡ true)
+teller_reads : (s : Setup) (g : World) (b i : ℕ) → i < s.shape.nodes → permits ((g.locals i).blocks b).tag false ≡ true →
+    (teller s g b < s.shape.nodes) × (permits ((g.locals (teller s g b)).blocks b).tag false ≡ true)
 teller_reads s g b i li may = writer (least_node s g b true) refl
   where
-    reader : (o : Option ℕ) → least_node s g b false ≡ o → (unwrap_or o (home_of s b) < s.shape.nodes) × (permits ((g.locals (unwrap_or o (home_of s b))).blocks b).tag false ≡ true)
-    reader (Some x) e = let below : x < 0 + s.shape.nodes = within (λ k. permits ((g.locals k).blocks b).tag false) 0 s.shape.nodes x e in (omega (arith, below), passes (λ k. permits ((g.locals k).blocks b).tag false) 0 s.shape.nodes x e)
-    reader None e = absurd (missed (λ k. permits ((g.locals k).blocks b).tag false) 0 s.shape.nodes i e (omega arith) (omega (arith, li)) may)
+    reader : (o : Option ℕ) → least_node s g b false ≡ o → (unwrap_or o (home_of s b) < s.shape.nodes)
+        × (permits ((g.locals (unwrap_or o (home_of s b))).blocks b).tag false ≡ true)
+    reader (Some x) e = let below : x < 0 + s.shape.nodes = within
+        (λ k. permits ((g.locals k).blocks b).tag false) 0 s.shape.nodes x e in
+        (omega (arith, below), passes (λ k. permits ((g.locals k).blocks b).tag false) 0 s.shape.nodes x e)
+    reader None e =
+        absurd (missed (λ k. permits ((g.locals k).blocks b).tag false) 0 s.shape.nodes i e (omega arith)
+        (omega (arith, li)) may)
 
-    writer : (o : Option ℕ) → least_node s g b true ≡ o → (teller s g b < s.shape.nodes) × (permits ((g.locals (teller s g b)).blocks b).tag false ≡ true)
-    writer (Some x) e = let below : x < 0 + s.shape.nodes = within (λ k. permits ((g.locals k).blocks b).tag true) 0 s.shape.nodes x e in rw e (omega (arith, below), stores_load _ (passes (λ k. permits ((g.locals k).blocks b).tag true) 0 s.shape.nodes x e))
+    writer : (o : Option ℕ) → least_node s g b true ≡ o → (teller s g b < s.shape.nodes)
+        × (permits ((g.locals (teller s g b)).blocks b).tag false ≡ true)
+    writer (Some x) e = let below : x < 0 + s.shape.nodes = within
+        (λ k. permits ((g.locals k).blocks b).tag true) 0 s.shape.nodes x e in rw e
+        (omega (arith, below), stores_load _ (passes (λ k. permits ((g.locals k).blocks b).tag true) 0 s.shape.nodes x e))
     writer None e = rw e (reader (least_node s g b false) refl)
 
 pub read_words_are_told : ReadWordsAreTold

@@ -15,7 +15,8 @@ use Rattle.journal.specs.declared.finals.Final.{Final}
 use Rattle.journal.specs.declared.reports.Options.{Options}
 use Rattle.journal.specs.History.{first_break}
 use Rattle.printed_text.specs.Lines.{line}
-use Rattle.journal.specs.Reports.{count_line, event_line, head, history_line, if_asked, node_line, register_lines, report_of, word_line}
+use Rattle.journal.specs.Reports.{count_line, event_line, head, history_line, if_asked, node_line, register_lines, report_of}
+use Rattle.journal.specs.Reports.{word_line}
 
 -- One flat memory explains the journal of a run to g (after Lamport's sequential consistency): its instructions are the flat
 -- machine's, and leave the processors of g's nodes.
@@ -68,6 +69,8 @@ abbrev pub ReportPrints : Type 0
 ReportPrints =
     (s : Setup) (j : List Entry) (finals : List Final) (words : List ℕ) (broken : Option Break) (o : Options) →
     report_of s j finals words broken o ≡
-    head s ++ flat_map print_text (prints_of j) ++ flat_map word_line (enumerate_from 0 words) ++ flat_map register_lines (enumerate_from 0 finals)
-    ++ flat_map (node_line s.protocol) (enumerate_from 0 finals) ++ if_asked o.counts (flat_map count_line (enumerate_from 0 finals))
+    head s ++ flat_map print_text (prints_of j) ++ flat_map word_line (enumerate_from 0 words)
+    ++ flat_map register_lines (enumerate_from 0 finals)
+    ++ flat_map (node_line s.protocol) (enumerate_from 0 finals)
+    ++ if_asked o.counts (flat_map count_line (enumerate_from 0 finals))
     ++ if_asked o.journal (flat_map (event_line s.protocol) (enumerate_from 0 j)) ++ history_line broken ++ codes "end\n"

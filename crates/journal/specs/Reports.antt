@@ -19,7 +19,9 @@ use Rattle.journal.specs.declared.reports.Options.{Options}
 -- ---- the first line
 
 abbrev pub head : Setup → List ℕ
-head s = line (codes "tempest report" ∷ decimal s.version ∷ codes "nodes" ∷ decimal s.shape.nodes ∷ codes "words" ∷ decimal s.shape.words
+head s =
+    line (codes "tempest report" ∷ decimal s.version ∷ codes "nodes" ∷ decimal s.shape.nodes ∷ codes "words" ∷ decimal
+    s.shape.words
     ∷ codes "blocks" ∷ decimal s.shape.blocks ∷ codes "budget" ∷ decimal s.shape.budget ∷ [])
 
 -- ---- prints, words, registers
@@ -38,7 +40,8 @@ word_line word = if word.1 == 0 then [] else line (codes "word" ∷ decimal word
 
 -- a register that is not 0
 abbrev pub register_line : ℕ → ℕ × ℕ → List ℕ
-register_line node register = if register.1 == 0 then [] else line (codes "register" ∷ decimal node ∷ decimal register.0 ∷ decimal register.1 ∷ [])
+register_line node register = if register.1 == 0 then [] else line
+    (codes "register" ∷ decimal node ∷ decimal register.0 ∷ decimal register.1 ∷ [])
 
 abbrev pub register_lines : ℕ × Final → List ℕ
 register_lines ended = flat_map (register_line ended.0) (enumerate_from 0 ended.1.cpu.regs)
@@ -58,7 +61,8 @@ node_line p ended =
     ∷ codes "instructions" ∷ decimal ended.1.instructions ∷ codes "handlers" ∷ decimal ended.1.handled ∷ [])
 
 abbrev pub count_line : ℕ × Final → List ℕ
-count_line ended = line (codes "counts" ∷ decimal ended.0 ∷ codes "ops" ∷ decimal ended.1.ops ∷ codes "records" ∷ decimal ended.1.records ∷ [])
+count_line ended =
+    line (codes "counts" ∷ decimal ended.0 ∷ codes "ops" ∷ decimal ended.1.ops ∷ codes "records" ∷ decimal ended.1.records ∷ [])
 
 -- ---- events
 
@@ -71,16 +75,19 @@ act_words p act.Halt = codes "halt" ∷ []
 act_words p (act.Trapped why) = codes "trap" ∷ trap_text why ∷ []
 act_words p act.Step = codes "step" ∷ []
 act_words p (act.Fault store block) = codes "fault" ∷ fault_text store ∷ codes "block" ∷ decimal block ∷ []
-act_words p (act.Redelivered kind block from) = codes "redeliver" ∷ kind_name p kind ∷ codes "block" ∷ decimal block ∷ codes "from" ∷ decimal from ∷ []
+act_words p (act.Redelivered kind block from) = codes "redeliver" ∷ kind_name p kind ∷ codes "block" ∷ decimal block ∷ codes
+    "from" ∷ decimal from ∷ []
 act_words p (act.Delivered kind block from chan number) =
-    codes "deliver" ∷ kind_name p kind ∷ codes "block" ∷ decimal block ∷ codes "from" ∷ decimal from ∷ codes "channel" ∷ chan_text chan
+    codes "deliver" ∷ kind_name p kind ∷ codes "block" ∷ decimal block ∷ codes "from" ∷ decimal from ∷ codes "channel" ∷
+    chan_text chan
     ∷ codes "number" ∷ decimal number ∷ []
 
 -- what a handler left; nothing where none ran
 abbrev pub after_words : Protocol → ℕ → Option After → List (List ℕ)
 after_words p sends None = []
 after_words p sends (Some after) =
-    codes "sends" ∷ decimal sends ∷ codes "state" ∷ state_name p after.state ∷ codes "tag" ∷ tag_text after.tag ∷ failure_words p after.end
+    codes "sends" ∷ decimal sends ∷ codes "state" ∷ state_name p after.state ∷ codes "tag" ∷ tag_text after.tag ∷ failure_words
+    p after.end
 
 -- entry k of a journal, by its place
 abbrev pub event_line : Protocol → ℕ × Entry → List ℕ
@@ -93,7 +100,8 @@ event_line p event =
 abbrev pub history_line : Option Break → List ℕ
 history_line None = codes "history agrees\n"
 history_line (Some b) =
-    line (codes "history broken event" ∷ decimal b.event ∷ codes "node" ∷ decimal b.node ∷ codes "address" ∷ decimal b.address ∷ codes "read" ∷ decimal b.read
+    line (codes "history broken event" ∷ decimal b.event ∷ codes "node" ∷ decimal b.node ∷ codes "address" ∷ decimal
+    b.address ∷ codes "read" ∷ decimal b.read
     ∷ codes "due" ∷ decimal b.due ∷ [])
 
 -- ---- the whole
@@ -106,6 +114,8 @@ if_asked false text = []
 -- they are asked for; and the history.
 unfoldable pub report_of : Setup → List Entry → List Final → List ℕ → Option Break → Options → List ℕ
 report_of s j finals words broken o =
-    head s ++ flat_map print_line j ++ flat_map word_line (enumerate_from 0 words) ++ flat_map register_lines (enumerate_from 0 finals)
-    ++ flat_map (node_line s.protocol) (enumerate_from 0 finals) ++ if_asked o.counts (flat_map count_line (enumerate_from 0 finals))
+    head s ++ flat_map print_line j ++ flat_map word_line (enumerate_from 0 words)
+    ++ flat_map register_lines (enumerate_from 0 finals)
+    ++ flat_map (node_line s.protocol) (enumerate_from 0 finals)
+    ++ if_asked o.counts (flat_map count_line (enumerate_from 0 finals))
     ++ if_asked o.journal (flat_map (event_line s.protocol) (enumerate_from 0 j)) ++ history_line broken ++ codes "end\n"

@@ -58,7 +58,8 @@ fn add_delivered(
     chan: Chan,
     number: u64,
 ) -> Result<(), Memory>
-    ensures { OnOk result (out.new ≡ out.old ++ spaced (act_words names.now.protocol.now (act.Delivered kind block from chan number))) }
+    ensures { OnOk result
+        (out.new ≡ out.old ++ spaced (act_words names.now.protocol.now (act.Delivered kind block from chan number))) }
 {
     let (block, from, chan) = (block.get(), from.get(), chan_text(chan));
     out.add(b" deliver ")?;

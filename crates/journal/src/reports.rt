@@ -47,7 +47,8 @@ fn add_asked_events(
     asked: bool,
     journal: &[Entry],
 ) -> Result<(), Memory>
-    ensures { OnOk result (out.new ≡ out.old ++ if_asked asked (flat_map (event_line names.now.protocol.now) (enumerate_from 0 journal.now))) }
+    ensures { OnOk result (out.new ≡ out.old ++ if_asked asked
+        (flat_map (event_line names.now.protocol.now) (enumerate_from 0 journal.now))) }
 {
     if asked {
         add_events(out, names, journal)

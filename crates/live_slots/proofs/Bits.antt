@@ -3,7 +3,8 @@ use Rattle.std.proofs.Common.{◌≡◌, ℕ, zero, suc, ◌*◌, ◌^◌, ◌<�
 use Rattle.std.specs.Prelude.{◌==◌, ◌&&◌, ◌||◌, nat_lt, not, max, min, bit_and, bit_or, ◌⊎◌}
 use Rattle.std.specs.Int.{bit_at, bit_not, w32}
 use Rattle.std.proofs.lemmas.Bool.{cases_eq, cases_lt, eq-eqb, eqb-true, le-ltb, lt-ltb}
-use Rattle.std.proofs.lemmas.Nat.Bits.{bit_at-lt, bit_at_above, bit_at_and, bit_at_or, bit_at_set_same, bit_at_set_other, bit_at_clear_same, bit_at_clear_other}
+use Rattle.std.proofs.lemmas.Nat.Bits.{bit_at-lt, bit_at_above, bit_at_and, bit_at_or, bit_at_set_same, bit_at_set_other}
+use Rattle.std.proofs.lemmas.Nat.Bits.{bit_at_clear_same, bit_at_clear_other}
 use Rattle.tw_base.specs.Bits.{has_bit}
 
 either_one : (a b : ℕ) → a < 2 → b < 2 → (max a b == 1) ≡ ((a == 1) || (b == 1))
@@ -51,7 +52,8 @@ and_above n m k lt le =
     let less : min (bit_at n k) (bit_at m k) ≡ bit_at n k = omega (arith, none) in
     ap (λ b. b == 1) (bit_at_and n m k ∙ less)
 
-pub has_bit-clear : (n j k : ℕ) → n < 2 ^ 32 → j < 32 → has_bit (bit_and n (bit_not w32 (1 * 2 ^ j % 2 ^ 32))) k ≡ (not (j == k) && has_bit n k)
+pub has_bit-clear : (n j k : ℕ) → n < 2 ^ 32 → j < 32 → has_bit (bit_and n (bit_not w32 (1 * 2 ^ j % 2 ^ 32))) k
+    ≡ (not (j == k) && has_bit n k)
 has_bit-clear n j k small lt = elim (cases_eq k j) [
   | inl same ↦
       ap (λ i. has_bit (bit_and n (bit_not w32 (1 * 2 ^ j % 2 ^ 32))) i) same ∙ ap (λ b. b == 1) (bit_at_clear_same w32 n j lt)

@@ -1,5 +1,6 @@
 -- A table that is closed and justified is exact, and a sweep keeps it justified.
-use Rattle.std.proofs.Common.{◌≡◌, ℕ, zero, suc, ◌+◌, ◌<◌, ◌≤◌, ◌-◌, Bool, true, false, List, Option, Some, None, length, refl, sym, ap, subst, ◌∙◌, arith, inl, inr, ◌⊎◌, get_or-set_same, get_or-set_other, replicate}
+use Rattle.std.proofs.Common.{◌≡◌, ℕ, zero, suc, ◌+◌, ◌<◌, ◌≤◌, ◌-◌, Bool, true, false, List, Option, Some, None, length, refl}
+use Rattle.std.proofs.Common.{sym, ap, subst, ◌∙◌, arith, inl, inr, ◌⊎◌, get_or-set_same, get_or-set_other, replicate}
 use Rattle.std.specs.Prelude.{◌==◌, ◌&&◌, ◌||◌, nat_lt, not, slice_set, slice_index}
 use Rattle.std.proofs.lemmas.Bool.{and_parts, cases_eq, eq-eqb, eqb-true, lt-ltb, ltb-true}
 use Rattle.std.proofs.lemmas.Nat.Bits.{bit_at-zero}
@@ -58,7 +59,8 @@ read_true _ at k t small e = cc
 along : (t : ℕ → ℕ → Bool) (k next place : ℕ) → next ≡ place → t next k ≡ true → t place k ≡ true
 along t k next place e x = subst (λ n. t n k ≡ true) e x
 
-passed : (o : OpCode) (at next k : ℕ) (written : Option ℕ) (t : ℕ → ℕ → Bool) → LeadsTo o at next written → (written ≡ Some k → ⊥) → t next k ≡ true → reads_first o at t k ≡ true
+passed : (o : OpCode) (at next k : ℕ) (written : Option ℕ) (t : ℕ → ℕ → Bool) → LeadsTo o at next written →
+    (written ≡ Some k → ⊥) → t next k ≡ true → reads_first o at t k ≡ true
 passed (op.Get j) at next k written t l w x = right_true (nat_lt j 32 && (j == k)) (t (at + 1) k) (along t k next (at + 1) l.0 x)
 passed (op.Put j) at next k written t l w x =
     both_true (not (j == k)) (t (at + 1) k) (unwritten j k (λ e. w (l.1 ∙ e))) (along t k next (at + 1) l.0 x)
@@ -81,7 +83,8 @@ passed op.Resume at next k written t l w x = absurd l
 passed op.Done at next k written t l w x = absurd l
 passed _ at next k written t l w x = along t k next (at + 1) l.0 x
 
-has : (ops : List OpCode) (table : List ℕ) → IsClosed ops table → {at k : ℕ} → k < 32 → ReadsFirst ops at k → is_set table at k ≡ true
+has : (ops : List OpCode) (table : List ℕ) → IsClosed ops table → {at k : ℕ} → k < 32 → ReadsFirst ops at k →
+    is_set table at k ≡ true
 has ops table c small (reads {at = at} {slot = k} {o = o} h r) = c at o h k ∙ read_true o at k (is_set table) small r
 has ops table c small (later {at = at} {next = next} {slot = k} {o = o} {written = written} h l w x) =
     c at o h k ∙ passed o at next k written (is_set table) l w (has ops table c small x)
@@ -98,7 +101,8 @@ module _ (ops : List OpCode) (table : List ℕ) (j : IsJustified ops table) (at 
       let same : i ≡ k = eqb-true i k parts.1 in
       record { small = subst (λ n. n < 32) same (ltb-true i 32 parts.0); reads = reads h (r ∙ ap Some same) }
 
-  onward : (o : OpCode) (next : ℕ) (written : Option ℕ) → HasOp ops at o → LeadsTo o at next written → (written ≡ Some k → ⊥) → is_set table next k ≡ true → IsReadFirst ops at k
+  onward : (o : OpCode) (next : ℕ) (written : Option ℕ) → HasOp ops at o → LeadsTo o at next written → (written ≡ Some k → ⊥) →
+      is_set table next k ≡ true → IsReadFirst ops at k
   onward o next written h l w x = let r = j next k x in record { small = r.small; reads = later h l w r.reads }
 
   reads_so : (o : OpCode) → HasOp ops at o → reads_first o at (is_set table) k ≡ true → IsReadFirst ops at k
@@ -130,10 +134,12 @@ module _ (ops : List OpCode) (table : List ℕ) (j : IsJustified ops table) (at 
   reads_so o h e = onward o (at + 1) None h (refl, refl) (λ q. cc) e
 
 -- a step that is written keeps the table justified
-pub justified_set : (ops : List OpCode) (table : List ℕ) (at bits : ℕ) (o : OpCode) → IsJustified ops table → HasOp ops at o → at < length table → IsStep o at table bits → IsJustified ops (slice_set table at bits)
+pub justified_set : (ops : List OpCode) (table : List ℕ) (at bits : ℕ) (o : OpCode) → IsJustified ops table → HasOp ops at o →
+    at < length table → IsStep o at table bits → IsJustified ops (slice_set table at bits)
 justified_set ops table at bits o j h lt step place k e = elim (cases_eq place at) [
   | inl same ↦
-      let here : slice_index (slice_set table at bits) place ≡ bits = ap (λ n. slice_index (slice_set table at bits) n) same ∙ get_or-set_same table at bits 0 lt in
+      let here : slice_index (slice_set table at bits) place ≡ bits = ap (λ n. slice_index (slice_set table at bits) n) same
+      ∙ get_or-set_same table at bits 0 lt in
       let bit : has_bit bits k ≡ true = sym (ap (λ n. has_bit n k) here) ∙ e in
       subst (λ n. IsReadFirst ops n k) (sym same) (reads_so ops table j at k o h (sym (step k) ∙ bit))
   | inr apart ↦
@@ -148,11 +154,13 @@ none_at (suc n) (suc at) = none_at n at
 -- nothing is set
 pub justified_none : (ops : List OpCode) (n : ℕ) → IsJustified ops (replicate n 0)
 justified_none ops n at k e =
-    let unset : has_bit (slice_index (replicate n 0) at) k ≡ false = ap (λ b. has_bit b k) (none_at n at) ∙ ap (λ b. b == 1) (bit_at-zero k) in
+    let unset : has_bit (slice_index (replicate n 0) at) k ≡ false = ap (λ b. has_bit b k) (none_at n at)
+    ∙ ap (λ b. b == 1) (bit_at-zero k) in
     cc
 
 -- one place more is closed
-pub closed_more : (ops : List OpCode) (old new : List ℕ) (at : ℕ) → new ≡ old → IsClosedAt ops new (at - 1) → ((place : ℕ) → at ≤ place → IsClosedAt ops old place) → (place : ℕ) → at - 1 ≤ place → IsClosedAt ops new place
+pub closed_more : (ops : List OpCode) (old new : List ℕ) (at : ℕ) → new ≡ old → IsClosedAt ops new (at - 1) →
+    ((place : ℕ) → at ≤ place → IsClosedAt ops old place) → (place : ℕ) → at - 1 ≤ place → IsClosedAt ops new place
 closed_more ops old new at e here before place le = elim (cases_eq place (at - 1)) [
   | inl same ↦ subst (λ n. IsClosedAt ops new n) (sym same) here
   | inr other ↦ subst (λ t. IsClosedAt ops t place) (sym e) (before place (omega arith))

@@ -16,7 +16,8 @@ use Rattle.teapot_meaning.specs.Depth.{depth}
 use Rattle.teapot_meaning.specs.Goes.{Goes, ends, goes_on}
 use Rattle.teapot_meaning.specs.Layers.{Layer, what_of}
 use Rattle.teapot_meaning.specs.Names.{info_number}
-use Rattle.teapot_meaning.specs.Steps.{assigned, assigned_at, ended, least_of, led_to, moved, next_of, out_to, payload_of, place_of, resumes, sent, sent_all, suspended, suspends, tagged, turned, turns}
+use Rattle.teapot_meaning.specs.Steps.{assigned, assigned_at, ended, least_of, led_to, moved, next_of, out_to, payload_of}
+use Rattle.teapot_meaning.specs.Steps.{place_of, resumes, sent, sent_all, suspended, suspends, tagged, turned, turns}
 use Rattle.teapot_meaning.specs.declared.state.Cont.{Cont}
 use Rattle.teapot_meaning.specs.declared.state.Ended.{Ended}
 use Rattle.teapot_meaning.specs.declared.state.Kept.{Kept}
@@ -54,7 +55,8 @@ module _ (p : Protocol) where
       by_test false h = refl
   payload_none None words e = refl
 
-  outs_bare : (number : ℕ) (args : List Value) (words : Data) (nodes : List ℕ) → Each (IsBare p) (map (out_to number args (payload_of (slice_get p.messages number) words)) nodes)
+  outs_bare : (number : ℕ) (args : List Value) (words : Data) (nodes : List ℕ) →
+      Each (IsBare p) (map (out_to number args (payload_of (slice_get p.messages number) words)) nodes)
   outs_bare number args words [] = tt
   outs_bare number args words (n ∷ nodes) =
       (λ e. payload_none (slice_get p.messages number) words e, outs_bare number args words nodes)
@@ -63,7 +65,8 @@ module _ (p : Protocol) where
   unfolding ended
   end_left r end h = h
 
-  assigned_left : (r : Running) (name : Name) (value : Value) (var info : Option ℕ) → LeftAt r → LeftAt (assigned_at r name value var info)
+  assigned_left : (r : Running) (name : Name) (value : Value) (var info : Option ℕ) → LeftAt r →
+      LeftAt (assigned_at r name value var info)
   assigned_left r name value (Some i) info h = h
   assigned_left r name value None (Some i) h = h
   assigned_left r name value None None h = h
@@ -84,11 +87,13 @@ module _ (p : Protocol) where
   send_all_left r to number args h =
       record { freed_if = h.freed_if; bare = append_bare r.sends _ h.bare (outs_bare number args r.here.words _) }
 
-  turn_left : (x : Name) (set : List Bool) (o : Option ℕ) (body rest : List Stmt) (r : Running) → LeftAt r → Leads (turned p x set o body rest r)
+  turn_left : (x : Name) (set : List Bool) (o : Option ℕ) (body rest : List Stmt) (r : Running) → LeftAt r →
+      Leads (turned p x set o body rest r)
   turn_left x set None body rest r h = h
   turn_left x set (Some n) body rest r h = assign_left r x _ h
 
-  suspend_left : (r : Running) (state : ℕ) (args : List Value) (rest : List Stmt) (b : Bool) → LeftAt r → Leads (if b then Over (ended r TooDeep) else Over (ended (suspended r state args rest) Fine))
+  suspend_left : (r : Running) (state : ℕ) (args : List Value) (rest : List Stmt) (b : Bool) → LeftAt r →
+      Leads (if b then Over (ended r TooDeep) else Over (ended (suspended r state args rest) Fine))
   suspend_left r state args rest true h = end_left r TooDeep h
   suspend_left r state args rest false h = end_left (suspended r state args rest) Fine h
 

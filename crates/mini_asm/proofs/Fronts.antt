@@ -10,7 +10,8 @@ pub with_front-nil : {X E : Type 0} (rest : Result (List X) E) → with_front []
 with_front-nil (Ok xs) = refl
 with_front-nil (Err e) = refl
 
-pub regroup : {X E : Type 0} (front more : List X) (rest : Result (List X) E) → with_front front (rest >>= λ xs. Ok (more ++ xs)) ≡ with_front (front ++ more) rest
+pub regroup : {X E : Type 0} (front more : List X) (rest : Result (List X) E) →
+    with_front front (rest >>= λ xs. Ok (more ++ xs)) ≡ with_front (front ++ more) rest
 regroup front more (Ok xs) = ap Ok (simp append_assoc)
 regroup front more (Err e) = refl
 

@@ -1,5 +1,6 @@
 -- Going over the lines of a program.
-use Rattle.std.proofs.Common.{◌≡◌, ℕ, ◌+◌, ◌<◌, ◌≤◌, List, [], ◌∷◌, ◌++◌, length, get_or, drop, Some, None, Result, Ok, Err, refl, sym, ap, ◌∙◌}
+use Rattle.std.proofs.Common.{◌≡◌, ℕ, ◌+◌, ◌<◌, ◌≤◌, List, [], ◌∷◌, ◌++◌, length, get_or, drop, Some, None, Result, Ok, Err}
+use Rattle.std.proofs.Common.{refl, sym, ap, ◌∙◌}
 use Rattle.std.proofs.lemmas.List.{drop_more, drop_all}
 use Rattle.tw_base.specs.Answers.{◌>>=◌}
 use Rattle.tw_lex.specs.declared.token.Line.{Line}
@@ -19,7 +20,8 @@ module _ (version : ℕ) (lines : List Line) (front : List Written) (total : Res
   turn at l form lt is spells so_far =
       let w : Written = record { line = l.number; form = form } in
       let d : drop at lines ≡ l ∷ drop (at + 1) lines = drop_more lines at l lt ∙ ap (λ x. x ∷ drop (at + 1) lines) (sym is) in
-      let one : written_of version (drop at lines) ≡ (written_of version (drop (at + 1) lines) >>= λ ws. Ok ((w ∷ []) ++ ws)) = rw (d, ← spells) refl in
+      let one : written_of version (drop at lines) ≡ (written_of version (drop (at + 1) lines) >>= λ ws. Ok ((w ∷ []) ++ ws)) =
+      rw (d, ← spells) refl in
       sym (regroup front (w ∷ []) _) ∙ ap (with_front front) (sym one) ∙ so_far
 
   pub fault : (at : ℕ) (l : Line) → at < length lines → l ≡ get_or lines at l → None ≡ form_of version l.tokens

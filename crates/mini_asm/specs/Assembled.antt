@@ -1,5 +1,6 @@
 -- The program that lines spell, or the first fault in them.
-use Rattle.std.specs.Prelude.{ℕ, suc, if◌then◌else◌, slice_get, Bool, true, false, List, [], ◌∷◌, ◌++◌, length, Option, Some, None, Result, Ok, Err}
+use Rattle.std.specs.Prelude.{ℕ, suc, if◌then◌else◌, slice_get, Bool, true, false, List, [], ◌∷◌, ◌++◌, length, Option, Some}
+use Rattle.std.specs.Prelude.{None, Result, Ok, Err}
 use Rattle.std.specs.Str.{bytes_eq}
 use Rattle.std.specs.List.{filter}
 use Rattle.std.specs.Option.{option_map, is_some}

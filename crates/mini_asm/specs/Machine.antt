@@ -1,8 +1,10 @@
 -- One processor, one instruction at a time.
-use Rattle.std.specs.Prelude.{ℕ, ◌+◌, ◌-◌, ◌%◌, ◌^◌, ◌==◌, if◌then◌else◌, nat_lt, slice_get, slice_set, slice_index, bit_and, bit_or, bit_xor, Bool, true, false, List, Option, Some, None}
+use Rattle.std.specs.Prelude.{ℕ, ◌+◌, ◌-◌, ◌%◌, ◌^◌, ◌==◌, if◌then◌else◌, nat_lt, slice_get, slice_set, slice_index, bit_and}
+use Rattle.std.specs.Prelude.{bit_or, bit_xor, Bool, true, false, List, Option, Some, None}
 use Rattle.tw_base.specs.declared.entry.Trap.TheVariants.{BadAddress, FellOff}
 use Rattle.mini_asm.specs.declared.instr.Instr.{Instr}
-use Rattle.mini_asm.specs.declared.instr.Instr.TheVariants.{Li, Mov, Add, Sub, And, Or, Xor, Ld, St, Beq, Bne, Blt, Jmp, Print, Halt, Faa}
+use Rattle.mini_asm.specs.declared.instr.Instr.TheVariants.{Li, Mov, Add, Sub, And, Or, Xor, Ld, St, Beq, Bne, Blt, Jmp, Print}
+use Rattle.mini_asm.specs.declared.instr.Instr.TheVariants.{Halt, Faa}
 use Rattle.mini_asm.specs.declared.cpu.Cpu.{Cpu}
 use Rattle.mini_asm.specs.declared.cpu.Next.{Next}
 use Rattle.mini_asm.specs.declared.cpu.Next.TheVariants as nexts
@@ -88,7 +90,10 @@ place_after (Faa d s a n) regs at = at + 1
 
 abbrev pub completed : Option Instr → Cpu → ℕ → Cpu
 completed None cpu loaded = cpu
-completed (Some i) cpu loaded = record { regs = with_written (written i cpu.regs loaded) cpu.regs; place = place_after i cpu.regs cpu.place }
+completed (Some i) cpu loaded = record {
+  regs = with_written (written i cpu.regs loaded) cpu.regs;
+  place = place_after i cpu.regs cpu.place;
+}
 
 -- the processor after the instruction at its place, where it loaded this word
 abbrev pub finish_of : List Instr → Cpu → ℕ → Cpu

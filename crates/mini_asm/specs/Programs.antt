@@ -2,7 +2,8 @@
 use Rattle.std.specs.Prelude.{ℕ, ◌<◌, ◌≤◌, Bool, true, false, List, length, All}
 use Rattle.std.specs.List.{list_any}
 use Rattle.mini_asm.specs.declared.instr.Instr.{Instr}
-use Rattle.mini_asm.specs.declared.instr.Instr.TheVariants.{Li, Mov, Add, Sub, And, Or, Xor, Ld, St, Beq, Bne, Blt, Jmp, Print, Halt, Faa}
+use Rattle.mini_asm.specs.declared.instr.Instr.TheVariants.{Li, Mov, Add, Sub, And, Or, Xor, Ld, St, Beq, Bne, Blt, Jmp, Print}
+use Rattle.mini_asm.specs.declared.instr.Instr.TheVariants.{Halt, Faa}
 
 -- its registers are below 16
 abbrev pub HasRegisters : Instr → Type 0

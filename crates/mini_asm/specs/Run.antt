@@ -1,5 +1,6 @@
 -- Several processors over one list of words: no blocks, no tags, no messages.
-use Rattle.std.specs.Prelude.{◌≡◌, ℕ, ◌+◌, ◌*◌, ◌<◌, slice_get, slice_set, slice_index, Bool, true, false, List, [], ◌∷◌, length, Option, Some, None, replicate}
+use Rattle.std.specs.Prelude.{◌≡◌, ℕ, ◌+◌, ◌*◌, ◌<◌, slice_get, slice_set, slice_index, Bool, true, false, List, [], ◌∷◌}
+use Rattle.std.specs.Prelude.{length, Option, Some, None, replicate}
 use Rattle.tw_base.specs.Answers.{◌>>?◌}
 use Rattle.tw_base.specs.Lists.{Each}
 use Rattle.tw_base.specs.Shape.{Sizes}
@@ -24,15 +25,18 @@ pub record Ran : Type 0 where
 
 -- the instruction completes, having loaded this word
 abbrev pub goes_on : Act → List Instr → Core → ℕ → List ℕ → Ran
-goes_on act program core loaded words = record { act = act; core = record { cpu = finish_of program core.cpu loaded; mode = core.mode }; words = words }
+goes_on act program core loaded words =
+    record { act = act; core = record { cpu = finish_of program core.cpu loaded; mode = core.mode }; words = words }
 
 -- the place stays
 abbrev pub stops : Act → FlatMode → Core → List ℕ → Ran
 stops act mode core words = record { act = act; core = record { cpu = core.cpu; mode = mode }; words = words }
 
 abbrev pub done : Next → List Instr → Core → List ℕ → Ran
-done (nexts.Access true address value) program core words = goes_on (acts.Store address value) program core 0 (slice_set words address value)
-done (nexts.Access false address value) program core words = goes_on (acts.Load address (slice_index words address)) program core (slice_index words address) words
+done (nexts.Access true address value) program core words = goes_on (acts.Store address value) program core 0
+    (slice_set words address value)
+done (nexts.Access false address value) program core words =
+    goes_on (acts.Load address (slice_index words address)) program core (slice_index words address) words
 done (nexts.Faa address added) program core words =
     let word = slice_index words address in
     goes_on (acts.Faa address word (wrap (word + added))) program core word (slice_set words address (wrap (word + added)))

@@ -1,11 +1,13 @@
 -- How a line of the assembly is spelled: a label, or an instruction.
-use Rattle.std.specs.Prelude.{ℕ, ◌-◌, ◌==◌, ◌&&◌, if◌then◌else◌, nat_le, slice_get, codes, Bool, true, false, List, [], ◌∷◌, length, Option, Some, None}
+use Rattle.std.specs.Prelude.{ℕ, ◌-◌, ◌==◌, ◌&&◌, if◌then◌else◌, nat_le, slice_get, codes, Bool, true, false, List, [], ◌∷◌}
+use Rattle.std.specs.Prelude.{length, Option, Some, None}
 use Rattle.std.specs.Str.{bytes_eq}
 use Rattle.std.specs.Option.{is_some}
 use Rattle.tw_base.specs.Answers.{◌>>?◌}
 use Rattle.tw_lex.specs.Bytes.{is_digit}
 use Rattle.tw_lex.specs.declared.token.Mark.{Mark}
-use Rattle.tw_lex.specs.declared.token.Mark.TheVariants.{Colon, Open, Close, BraceOpen, BraceClose, Comma, Semicolon, Becomes, Plus, Minus, Equal, Unequal, Less, LessEqual, Both, Either}
+use Rattle.tw_lex.specs.declared.token.Mark.TheVariants.{Colon, Open, Close, BraceOpen, BraceClose, Comma, Semicolon, Becomes}
+use Rattle.tw_lex.specs.declared.token.Mark.TheVariants.{Plus, Minus, Equal, Unequal, Less, LessEqual, Both, Either}
 use Rattle.tw_lex.specs.declared.token.Token.{Token}
 use Rattle.tw_lex.specs.declared.token.What.{What}
 use Rattle.tw_lex.specs.declared.token.What.TheVariants as whats
@@ -14,7 +16,8 @@ use Rattle.mini_asm.specs.declared.form.Form.TheVariants.{Label, Code}
 use Rattle.mini_asm.specs.declared.instr.Instr.{Instr}
 use Rattle.mini_asm.specs.declared.instr.Instr.TheVariants as instrs
 use Rattle.mini_asm.specs.declared.instr.Keyword.{Keyword}
-use Rattle.mini_asm.specs.declared.instr.Keyword.TheVariants.{Li, Mov, Add, Sub, And, Or, Xor, Ld, St, Beq, Bne, Blt, Jmp, Print, Halt, Faa}
+use Rattle.mini_asm.specs.declared.instr.Keyword.TheVariants.{Li, Mov, Add, Sub, And, Or, Xor, Ld, St, Beq, Bne, Blt, Jmp}
+use Rattle.mini_asm.specs.declared.instr.Keyword.TheVariants.{Print, Halt, Faa}
 
 -- ---- words
 
@@ -132,19 +135,27 @@ abbrev pub two_registers : List Token → Option (ℕ × ℕ)
 two_registers ts = if length ts == 3 then (register_at ts 1 >>? λ d. register_at ts 2 >>? λ a. Some (d, a)) else None
 
 abbrev pub three_registers : List Token → Option (ℕ × ℕ × ℕ)
-three_registers ts = if length ts == 4 then (register_at ts 1 >>? λ d. register_at ts 2 >>? λ a. register_at ts 3 >>? λ b. Some (d, a, b)) else None
+three_registers ts =
+    if length ts == 4 then (register_at ts 1 >>? λ d. register_at ts 2 >>? λ a. register_at ts 3 >>? λ b. Some (d, a, b))
+    else None
 
 abbrev pub register_address : List Token → Option (ℕ × ℕ × ℕ)
-register_address ts = if length ts == 4 then (register_at ts 1 >>? λ d. register_at ts 2 >>? λ a. number_at ts 3 >>? λ n. Some (d, a, n)) else None
+register_address ts =
+    if length ts == 4 then (register_at ts 1 >>? λ d. register_at ts 2 >>? λ a. number_at ts 3 >>? λ n. Some (d, a, n))
+    else None
 
 abbrev pub two_registers_label : List Token → Option (ℕ × ℕ)
-two_registers_label ts = if length ts == 4 then (register_at ts 1 >>? λ a. register_at ts 2 >>? λ b. label_at ts 3 >>? λ l. Some (a, b)) else None
+two_registers_label ts =
+    if length ts == 4 then (register_at ts 1 >>? λ a. register_at ts 2 >>? λ b. label_at ts 3 >>? λ l. Some (a, b)) else None
 
 abbrev pub has_one_label : List Token → Bool
 has_one_label ts = (length ts == 2) && is_some (label_at ts 1)
 
 abbrev pub two_registers_address : List Token → Option (ℕ × ℕ × ℕ × ℕ)
-two_registers_address ts = if length ts == 5 then (register_at ts 1 >>? λ d. register_at ts 2 >>? λ s. register_at ts 3 >>? λ a. number_at ts 4 >>? λ n. Some (d, s, a, n)) else None
+two_registers_address ts =
+    if length ts == 5
+    then (register_at ts 1 >>? λ d. register_at ts 2 >>? λ s. register_at ts 3 >>? λ a. number_at ts 4 >>? λ n. Some
+    (d, s, a, n)) else None
 
 -- ---- lines
 

@@ -4,7 +4,8 @@ ghost use Rattle.std.specs.Cmp.Lexicographic.{slice_cmp};
 ghost use Rattle.std.specs.Ordering.{nat_cmp};
 ghost use Rattle.mini_asm.specs.declared.parse.ProgramError.TheVariants.{LabelTwice};
 ghost use Rattle.tw_base.specs.Answers.{Fails, Gives};
-ghost use Rattle.mini_asm.specs.Assembled.{is_code, code_count, code_line, place_of, twice, refuse, jump_to, code_of, codes_of, is_memory};
+ghost use Rattle.mini_asm.specs.Assembled.{is_code, code_count, code_line, place_of, twice, refuse, jump_to, code_of, codes_of};
+ghost use Rattle.mini_asm.specs.Assembled.{is_memory};
 
 use crate::form::{Form, Written};
 use crate::{Instr, ProgramError};
@@ -48,7 +49,8 @@ pub fn places_of<'a>(
 ) -> Result<BTreeMap<&'a [u8], u32>, ProgramError>
     requires { code_count written.now ≤ 4096 }
     ensures once { OnOk result (twice [] written.now ≡ None) }
-    ensures places { IfOk result (λ places. (name : List ℕ) → get_by (λ k. slice_cmp nat_cmp name k.now) places ≡ place_of written.now name) }
+    ensures places { IfOk result (λ places. (name : List ℕ) →
+        get_by (λ k. slice_cmp nat_cmp name k.now) places ≡ place_of written.now name) }
     ensures fault { IfErr result (λ e. Fails is_memory e (refuse LabelTwice (twice [] written.now))) }
 {
     let mut places: BTreeMap<&[u8], u32> = BTreeMap::new(alloc);
@@ -81,7 +83,8 @@ fn jump_to(instr: Instr, place: u32) -> Instr
 
 /// The instruction of a line, if it has one.
 fn code_of(places: &BTreeMap<&[u8], u32>, written: &Written) -> Result<Option<Instr>, ProgramError>
-    ensures { Gives is_memory option_to_list result (code_of (λ name. get_by (λ k. slice_cmp nat_cmp name k.now) places.now) written.now.line written.now.form) }
+    ensures { Gives is_memory option_to_list result (code_of
+        (λ name. get_by (λ k. slice_cmp nat_cmp name k.now) places.now) written.now.line written.now.form) }
 {
     match &written.form {
         Form::Label(_) => Ok(None),
@@ -110,7 +113,8 @@ pub fn codes_of(
     places: &BTreeMap<&[u8], u32>,
     written: &[Written],
 ) -> Result<Vec<Instr>, ProgramError>
-    ensures { Gives is_memory (λ v. v.items) result (codes_of (λ name. get_by (λ k. slice_cmp nat_cmp name k.now) places.now) written.now) }
+    ensures { Gives is_memory (λ v. v.items) result (codes_of
+        (λ name. get_by (λ k. slice_cmp nat_cmp name k.now) places.now) written.now) }
 {
     let mut instrs = Vec::new(alloc);
     for w in written {

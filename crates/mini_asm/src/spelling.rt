@@ -2,7 +2,10 @@ ghost use Rattle.std.specs.Prelude.{◌≡◌, ◌<◌, length, IfSome, IfOk};
 ghost use Rattle.std.specs.Option.{option_copied};
 ghost use Rattle.mini_asm.specs.Programs.{IsInstr};
 ghost use Rattle.mini_asm.specs.Assembled.{IsForm};
-ghost use Rattle.mini_asm.specs.Spelling.{register_named, keyword_named, is_of_version, word_at, number_of_token, is_colon, register_at, number_at, label_at, keyword_at, register_number, one_register, two_registers, three_registers, register_address, two_registers_label, has_one_label, two_registers_address, instr_with, instr_of, target_at, target_of, label_of, form_of};
+ghost use Rattle.mini_asm.specs.Spelling.{register_named, keyword_named, is_of_version, word_at, number_of_token, is_colon};
+ghost use Rattle.mini_asm.specs.Spelling.{register_at, number_at, label_at, keyword_at, register_number, one_register};
+ghost use Rattle.mini_asm.specs.Spelling.{two_registers, three_registers, register_address, two_registers_label, has_one_label};
+ghost use Rattle.mini_asm.specs.Spelling.{two_registers_address, instr_with, instr_of, target_at, target_of, label_of, form_of};
 
 use crate::Instr;
 use crate::form::Form;

@@ -1,5 +1,6 @@
 -- An instruction that runs no handler: what it makes of the node, whatever it does to registers, blocks and mode.
-use Rattle.std.proofs.Common.{◌≡◌, ◌∙◌, ℕ, ◌+◌, ◌<◌, Bool, true, false, List, [], ◌∷◌, ◌++◌, None, append-nil, refl, ap, sym, subst, arith}
+use Rattle.std.proofs.Common.{◌≡◌, ◌∙◌, ℕ, ◌+◌, ◌<◌, Bool, true, false, List, [], ◌∷◌, ◌++◌, None, append-nil, refl, ap, sym}
+use Rattle.std.proofs.Common.{subst, arith}
 use Rattle.std.specs.Prelude.{if◌then◌else◌, option_to_list}
 use Rattle.tw_base.specs.declared.entry.Act.{Act}
 use Rattle.tw_base.specs.declared.entry.Entry.{Entry}

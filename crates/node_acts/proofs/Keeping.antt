@@ -1,5 +1,6 @@
 -- A message is kept as the front of its wire, or handed out: the node stands for the courses that it stood for.
-use Rattle.std.proofs.Common.{◌≡◌, ◌∙◌, ℕ, ◌+◌, ◌<◌, ◌≤◌, List, ◌∷◌, ◌++◌, Option, Some, None, length, get_or, set, refl, ap, sym, subst, inl, inr, arith}
+use Rattle.std.proofs.Common.{◌≡◌, ◌∙◌, ℕ, ◌+◌, ◌<◌, ◌≤◌, List, ◌∷◌, ◌++◌, Option, Some, None, length, get_or, set, refl, ap}
+use Rattle.std.proofs.Common.{sym, subst, inl, inr, arith}
 use Rattle.std.specs.Prelude.{option_to_list, slice_set}
 use Rattle.std.proofs.Math.ListN.{length-set}
 use Rattle.std.proofs.lemmas.Bool.{cases_eq}

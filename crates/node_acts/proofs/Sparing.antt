@@ -8,7 +8,8 @@ use Rattle.cont_store.specs.declared.record.Record.{Record}
 use Rattle.cont_store.specs.declared.record.RecordKey.{RecordKey}
 use Rattle.cont_store.specs.Store.{Store, chain_of, chained, places_of, record_at}
 use Rattle.handler_vm.specs.Apart.{AreChains}
-use Rattle.handler_vm.specs.Chains.{Chained, ends, heads, IsChain, IsOn, newest, older, IsWholeRecord, records_of, saved_from, saved_of}
+use Rattle.handler_vm.specs.Chains.{Chained, ends, heads, IsChain, IsOn, newest, older, IsWholeRecord, records_of, saved_from}
+use Rattle.handler_vm.specs.Chains.{saved_of}
 use Rattle.handler_code.specs.Machine.{Saved}
 use Rattle.handler_vm.specs.Leaves.{kept_of}
 use Rattle.compiled_meaning.specs.Whole.{CellStands}

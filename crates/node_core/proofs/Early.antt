@@ -10,7 +10,8 @@ pub early_eligible : (handles eligible : Bool) (early : ℕ) → eligible ≡ tr
 early_eligible true eligible early e = rw e refl
 early_eligible false eligible early e = refl
 
-pub early_all : (handles eligible : Bool) (early : ℕ) → handles ≡ true → eligible ≡ false → early ≡ early_if handles eligible early
+pub early_all : (handles eligible : Bool) (early : ℕ) → handles ≡ true → eligible ≡ false →
+    early ≡ early_if handles eligible early
 early_all handles eligible early e f = rw (e, f) refl
 
 -- the word of bits, where its parts are what they are known to be

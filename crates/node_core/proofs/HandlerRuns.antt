@@ -1,5 +1,6 @@
 -- A handler's run at a node's state, and what is done of it.
-use Rattle.std.proofs.Common.{◌≡◌, ◌∙◌, ℕ, zero, suc, ◌+◌, ◌<◌, ◌≤◌, ◌^◌, false, List, [], ◌∷◌, ◌++◌, Some, length, refl, ap, sym, subst, arith, get_or, get_or-set_same, get_or-set_other}
+use Rattle.std.proofs.Common.{◌≡◌, ◌∙◌, ℕ, zero, suc, ◌+◌, ◌<◌, ◌≤◌, ◌^◌, false, List, [], ◌∷◌, ◌++◌, Some, length, refl, ap}
+use Rattle.std.proofs.Common.{sym, subst, arith, get_or, get_or-set_same, get_or-set_other}
 use Rattle.std.specs.Prelude.{slice_set}
 use Rattle.std.specs.Global.{Vec}
 use Rattle.std.specs.List.{slice_index_or}

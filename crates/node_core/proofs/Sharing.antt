@@ -13,5 +13,11 @@ pub node_send : (a : NamedLft) → IsSend (node.the_row a)
 node_send a =
     view_send _ _ _ _ _ (declared_send (node_inside.the_type a) (
       search (sendable, setup_sync) depth 8,
-      (search (sendable, code_sync) depth 8, (search (sendable, node_id.the_send) depth 8, (search (sendable, state.the_send) depth 8, tt))),
+      (
+        search (sendable, code_sync) depth 8,
+        (
+          search (sendable, node_id.the_send) depth 8,
+          (search (sendable, state.the_send) depth 8, tt),
+        ),
+      ),
     ))

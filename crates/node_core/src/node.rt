@@ -1,4 +1,5 @@
-ghost use Rattle.std.specs.Prelude.{ℕ, ◌≡◌, ◌+◌, ◌-◌, ◌*◌, ◌<◌, ◌^◌, ◌&&◌, ◌++◌, [], not, is_some, true, None, Some, length, slice_get, slice_set, option_to_list, IfOk, IfSome, OnErr, OnOk};
+ghost use Rattle.std.specs.Prelude.{ℕ, ◌≡◌, ◌+◌, ◌-◌, ◌*◌, ◌<◌, ◌^◌, ◌&&◌, ◌++◌, [], not, is_some, true, None, Some, length};
+ghost use Rattle.std.specs.Prelude.{slice_get, slice_set, option_to_list, IfOk, IfSome, OnErr, OnOk};
 ghost use Rattle.std.specs.Option.{option_copied};
 ghost use Rattle.tw_base.specs.declared.entry.Event.TheVariants as event;
 ghost use Rattle.tw_base.specs.declared.message.Chan.{Chan};
@@ -85,7 +86,10 @@ impl<'a> Node<'a> {
     /// Takes the memory of one event. After an Err the node is as before, but may have more room.
     pub fn ready(&mut self) -> Result<(), Memory>
         ensures ok { OnOk result (self.new.ready ≡ true) }
-        ensures same { self.new ≡ record self.old { ready = self.new.ready; conts = record self.old.conts { spare = self.new.conts.spare } } }
+        ensures same { self.new ≡ record self.old {
+          ready = self.new.ready;
+          conts = record self.old.conts { spare = self.new.conts.spare };
+        } }
         ensures err { OnErr result (self.new.ready ≡ self.old.ready) }
         ensures stands { StandsAsBefore self.old self.new }
     {
@@ -158,7 +162,10 @@ impl<'a> Node<'a> {
         requires free { front_at self.old m.from m.chan ≡ None }
         requires fit { IsFit self.old.setup m.from self.old.me m }
         requires number { m.number ≡ accepted_at self.old m.from m.chan }
-        ensures node { self.new ≡ record self.old { fronts = slice_set self.old.fronts (place m.from m.chan) (Some m); accepted = slice_set self.old.accepted (place m.from m.chan) (m.number + 1) } }
+        ensures node { self.new ≡ record self.old {
+          fronts = slice_set self.old.fronts (place m.from m.chan) (Some m);
+          accepted = slice_set self.old.accepted (place m.from m.chan) (m.number + 1);
+        } }
         ensures stands { StandsAsBefore self.old self.new }
     {
         let _handled = handled_of(&self.state);

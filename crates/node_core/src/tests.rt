@@ -117,7 +117,8 @@ fn both(a: bool, b: bool) -> bool
 
 /// All tests of the node as one word of bits.
 pub fn all_tests(setup: &Setup, state: &State) -> u32
-    ensures tests { (code : Code) (me : ℕ) → truths (2 + 2 * setup.now.shape.nodes) result ≡ node_tests (shown_of setup.now code me state.now) }
+    ensures tests { (code : Code) (me : ℕ) → truths (2 + 2 * setup.now.shape.nodes) result
+        ≡ node_tests (shown_of setup.now code me state.now) }
     ensures small { result < 2 ^ (2 + 2 * setup.now.shape.nodes) }
 {
     let instructs = may_instruct(setup, state);

@@ -1,5 +1,6 @@
 -- Refused accesses, redeliveries and deliveries are events of the model.
-use Rattle.std.proofs.Common.{get_or-set_same, get_or-set_other, ◌≡◌, ℕ, ◌+◌, ◌<◌, ◌≤◌, Bool, true, false, not, ◌&&◌, ◌||◌, nat_eq, List, [], ◌∷◌, ◌++◌, Option, Some, None, refl, ap, sym, ◌∙◌, subst, arith, eqb-true}
+use Rattle.std.proofs.Common.{get_or-set_same, get_or-set_other, ◌≡◌, ℕ, ◌+◌, ◌<◌, ◌≤◌, Bool, true, false, not, ◌&&◌, ◌||◌}
+use Rattle.std.proofs.Common.{nat_eq, List, [], ◌∷◌, ◌++◌, Option, Some, None, refl, ap, sym, ◌∙◌, subst, arith, eqb-true}
 use Rattle.std.specs.Prelude.{find, if◌then◌else◌, length, slice_set}
 use Rattle.std.specs.List.{slice_index_or}
 use Rattle.std.specs.Option.{option_map}
@@ -32,7 +33,8 @@ use Rattle.dsm_runs.specs.Worlds.{event_at, event_of, takes_from}
 use Rattle.dsm_runs.proofs.Lists.{and_left, and_right, chan_eq-true, chan_eq_refl, nat_eq_refl}
 use Rattle.dsm_runs.proofs.RunStates.{arrived, first_waits}
 use Rattle.dsm_runs.proofs.Testing.{may_handle_decides, may_instruct_decides}
-use Rattle.node_meaning.specs.HandlerEvents.{DeliveriesAreMade, FaultsAreMade, HasMade, IsDeliveryAt, IsFaultAt, IsRedeliveryAt, RedeliveriesAreMade, blocked, one_handled, without_first}
+use Rattle.node_meaning.specs.HandlerEvents.{DeliveriesAreMade, FaultsAreMade, HasMade, IsDeliveryAt, IsFaultAt, IsRedeliveryAt}
+use Rattle.node_meaning.specs.HandlerEvents.{RedeliveriesAreMade, blocked, one_handled, without_first}
 use Rattle.node_meaning.specs.Handling.{HandlerLeaves}
 use Rattle.node_meaning.specs.Laws.{LowerLaws}
 use Rattle.node_meaning.specs.Nodes.{Parts, Shown, front_at, tested}

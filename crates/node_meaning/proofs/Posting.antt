@@ -1,5 +1,6 @@
 -- Messages that a node posts one after another, and what of them comes onto each wire.
-use Rattle.std.proofs.Common.{◌≡◌, ◌≢◌, ℕ, suc, ◌+◌, ◌<◌, ◌≤◌, Bool, true, false, ◌&&◌, nat_eq, length, List, [], ◌∷◌, ◌++◌, arith, refl, ap, sym, ◌∙◌, append_assoc, append-nil, eqb-true, get_or-set_same, get_or-set_other}
+use Rattle.std.proofs.Common.{◌≡◌, ◌≢◌, ℕ, suc, ◌+◌, ◌<◌, ◌≤◌, Bool, true, false, ◌&&◌, nat_eq, length, List, [], ◌∷◌, ◌++◌}
+use Rattle.std.proofs.Common.{arith, refl, ap, sym, ◌∙◌, append_assoc, append-nil, eqb-true, get_or-set_same, get_or-set_other}
 use Rattle.std.specs.Prelude.{map, slice_index, if◌then◌else◌}
 use Rattle.std.specs.List.{filter}
 use Rattle.std.proofs.Math.ListN.{length-set}
@@ -58,7 +59,8 @@ pub record IsPostable (me : ℕ) (m : Message) : Type 0 where
 
 pub on_it : (me t : ℕ) (c : Chan) (m : Message) → on_wire me t c m ≡ true → (m.to ≡ t) × (m.chan ≡ c)
 on_it me t c m on =
-    let ends : (nat_eq m.from me && nat_eq m.to t) ≡ true = and_left (nat_eq m.from me && nat_eq m.to t) (chan_eq m.chan c) on in (
+    let ends : (nat_eq m.from me && nat_eq m.to t) ≡ true = and_left (nat_eq m.from me && nat_eq m.to t)
+    (chan_eq m.chan c) on in (
       eqb-true m.to t (and_right (nat_eq m.from me) (nat_eq m.to t) ends),
       chan_eq-true m.chan c
           (and_right (nat_eq m.from me && nat_eq m.to t) (chan_eq m.chan c) on),

@@ -1,7 +1,8 @@
 -- A node on compiled handlers, and the course of the model that it stands for. The course is not a function of the node: the
 -- rests of suspended handlers, and what was taken and sent, are known to exist and no more. So each clause on an event
 -- speaks of every course that the node stood for.
-use Rattle.std.specs.Prelude.{◌≡◌, ℕ, ◌+◌, ◌<◌, ◌≤◌, ◌^◌, if◌then◌else◌, List, [], ◌∷◌, ◌++◌, Option, Some, None, length, option_to_list}
+use Rattle.std.specs.Prelude.{◌≡◌, ℕ, ◌+◌, ◌<◌, ◌≤◌, ◌^◌, if◌then◌else◌, List, [], ◌∷◌, ◌++◌, Option, Some, None, length}
+use Rattle.std.specs.Prelude.{option_to_list}
 use Rattle.tw_base.specs.Lists.{Each}
 use Rattle.tw_base.specs.declared.entry.Entry.{Entry}
 use Rattle.tw_base.specs.declared.entry.Event.{Event}

@@ -1,4 +1,5 @@
-ghost use Rattle.node_meaning.specs.HandlerEvents.{DeliveriesAreMade, FaultsAreMade, ReadyForFaults, ReadyForFirsts, ReadyForFronts, RedeliveriesAreMade, RunsAreBounded};
+ghost use Rattle.node_meaning.specs.HandlerEvents.{DeliveriesAreMade, FaultsAreMade, ReadyForFaults, ReadyForFirsts};
+ghost use Rattle.node_meaning.specs.HandlerEvents.{ReadyForFronts, RedeliveriesAreMade, RunsAreBounded};
 ghost use Rattle.node_meaning.specs.Laws.{LowerLaws};
 
 use handler_vm::chains_stay_apart;

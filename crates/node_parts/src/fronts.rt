@@ -81,7 +81,8 @@ impl Fronts {
     pub fn keep(&mut self, message: Message)
         requires { message.number < 2 ^ 64 - 1 }
         ensures items { self.new.items ≡ slice_set self.old.items (place message.from message.chan) (Some message) }
-        ensures accepted { self.new.accepted ≡ slice_set self.old.accepted (place message.from message.chan) (message.number + 1) }
+        ensures accepted { self.new.accepted ≡ slice_set self.old.accepted (place message.from message.chan)
+            (message.number + 1) }
     {
         let at = place(message.from, message.chan);
         let (number, early) = (message.number, message.stamp < u64::MAX);

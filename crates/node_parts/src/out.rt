@@ -1,4 +1,5 @@
-ghost use Rattle.std.specs.Prelude.{◌≡◌, ◌+◌, ◌-◌, ◌<◌, ◌≤◌, ◌^◌, [], ◌∷◌, ◌++◌, length, slice_get, slice_index, slice_set, option_to_list, replicate, OnOk};
+ghost use Rattle.std.specs.Prelude.{◌≡◌, ◌+◌, ◌-◌, ◌<◌, ◌≤◌, ◌^◌, [], ◌∷◌, ◌++◌, length, slice_get, slice_index, slice_set};
+ghost use Rattle.std.specs.Prelude.{option_to_list, replicate, OnOk};
 ghost use Rattle.std.specs.Option.{option_copied};
 ghost use Rattle.std.specs.VecDeque.{deque_capacity};
 ghost use Rattle.dsm_runs.specs.Messages.{place};
@@ -89,8 +90,13 @@ impl Out {
     pub fn post(&mut self, message: &Message, stamp: u64)
         requires room { length self.old.waiting < self.old.room }
         requires few { slice_index self.old.posted (place message.now.to message.now.chan) < 2 ^ 64 - 1 }
-        ensures waiting { self.new.waiting ≡ self.old.waiting ++ record message.now { number = slice_index self.old.posted (place message.now.to message.now.chan); stamp = stamp } ∷ [] }
-        ensures posted { self.new.posted ≡ slice_set self.old.posted (place message.now.to message.now.chan) (slice_index self.old.posted (place message.now.to message.now.chan) + 1) }
+        ensures waiting { self.new.waiting ≡ self.old.waiting
+            ++ record message.now {
+              number = slice_index self.old.posted (place message.now.to message.now.chan);
+              stamp = stamp;
+            } ∷ [] }
+        ensures posted { self.new.posted ≡ slice_set self.old.posted (place message.now.to message.now.chan)
+            (slice_index self.old.posted (place message.now.to message.now.chan) + 1) }
         ensures room { self.new.room ≡ self.old.room }
     {
         let at = place(message.to, message.chan);

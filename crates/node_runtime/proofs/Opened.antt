@@ -1,5 +1,6 @@
 -- Opened seats, whose wires are closed, are a state of the model.
-use Rattle.std.proofs.Common.{◌≡◌, ◌∙◌, ℕ, zero, suc, ◌*◌, ◌<◌, ◌≤◌, List, [], ◌∷◌, Some, length, min, refl, ap, sym, subst, arith}
+use Rattle.std.proofs.Common.{◌≡◌, ◌∙◌, ℕ, zero, suc, ◌*◌, ◌<◌, ◌≤◌, List, [], ◌∷◌, Some, length, min, refl, ap, sym, subst}
+use Rattle.std.proofs.Common.{arith}
 use Rattle.std.specs.Prelude.{map, slice_get}
 use Rattle.std.proofs.lemmas.List.{length-map}
 use Rattle.tw_base.specs.declared.message.Chan.{Chan}
@@ -36,13 +37,15 @@ place_below : (n t : ℕ) (c : Chan) → t < n → place t c < 2 * n
 place_below n t Zero l = omega arith
 place_below n t One l = omega arith
 
-module _ (s : Setup) (code : Code) (names : Names) (os : List Opened) (below : AreOpenedBelow s code names 8 os) (few : s.shape.nodes ≤ 8) where
+module _ (s : Setup) (code : Code) (names : Names) (os : List Opened) (below : AreOpenedBelow s code names 8 os)
+    (few : s.shape.nodes ≤ 8) where
   abbrev seats : List Seated
   seats = map seated_of os
 
   all_opened : AreOpened s code names seats
   all_opened = record {
-    count = let count : length os ≡ min 8 s.shape.nodes = below.count in let same = length-map os seated_of in omega (arith, same);
+    count = let count : length os ≡ min 8 s.shape.nodes = below.count in let same =
+        length-map os seated_of in omega (arith, same);
     each = λ i x at.
         let o = made_of seated_of os i x at in
         subst (λ (z : Seated). IsSeated s code names i z) o.2 (below.each i o.0 o.1);
@@ -82,7 +85,8 @@ module _ (s : Setup) (code : Code) (names : Names) (os : List Opened) (below : A
 
 module _
     (s : Setup) (code : Code) (names : Names) (os : List Opened) (below : AreOpenedBelow s code names 8 os)
-    (z : Setup) (same : z ≡ s) (valid : IsSetup z) (wires : Names) (are : wires ≡ names) (named : AreNames s.shape.nodes names) where
+    (z : Setup) (same : z ≡ s) (valid : IsSetup z) (wires : Names) (are : wires ≡ names)
+    (named : AreNames s.shape.nodes names) where
   few : s.shape.nodes ≤ 8
   few = subst (λ (u : Setup). u.shape.nodes ≤ 8) same valid.limits.nodes
 

@@ -1,5 +1,6 @@
 -- Nodes are placed and opened one after another.
-use Rattle.std.proofs.Common.{◌≡◌, ◌⊎◌, ℕ, zero, suc, ◌+◌, ◌-◌, ◌<◌, ◌≤◌, List, [], ◌∷◌, ◌++◌, Some, length, min, refl, ap, sym, subst, arith, inl}
+use Rattle.std.proofs.Common.{◌≡◌, ◌⊎◌, ℕ, zero, suc, ◌+◌, ◌-◌, ◌<◌, ◌≤◌, List, [], ◌∷◌, ◌++◌, Some, length, min, refl, ap, sym}
+use Rattle.std.proofs.Common.{subst, arith, inl}
 use Rattle.std.proofs.Common.{inr, length-append, zero-add}
 use Rattle.std.specs.Prelude.{slice_get}
 use Rattle.std.proofs.lemmas.Option.{slice_get_within}
@@ -38,7 +39,8 @@ later_ends n names k e rest from = record {
 }
 
 -- past the last node there are none
-pub no_ends : (n : ℕ) (names : Names) (k : ℕ) (ends : List EndsShown) → AreEndsFrom n names k ends → n ≤ k → AreEndsFrom n names (k + 1) ends
+pub no_ends : (n : ℕ) (names : Names) (k : ℕ) (ends : List EndsShown) → AreEndsFrom n names k ends → n ≤ k →
+    AreEndsFrom n names (k + 1) ends
 no_ends n names k ends from past = record {
   count = let count : length ends ≡ n - k = from.count in omega arith;
   each = λ i e at.
@@ -76,7 +78,10 @@ module _ (s : Setup) (code : Code) (names : Names) (k : ℕ) (os : List Opened) 
 
   -- past the last node there are no more
   pub opened_same : AreOpenedBelow s code names k os → s.shape.nodes ≤ k → AreOpenedBelow s code names (k + 1) os
-  opened_same below past = record { count = let count : length os ≡ min k s.shape.nodes = below.count in omega arith; each = below.each }
+  opened_same below past = record {
+    count = let count : length os ≡ min k s.shape.nodes = below.count in omega arith;
+    each = below.each;
+  }
 
 pub opened_none : (s : Setup) (code : Code) (names : Names) → AreOpenedBelow s code names 0 []
 opened_none s code names = record { count = omega arith; each = λ i o at. absurd cc }

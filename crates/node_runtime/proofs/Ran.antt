@@ -38,7 +38,8 @@ logs_of told s code law h =
     (λ r of. law s code of.0 r of.1) h
 
 pub run_of :
-    {E : Type 0} (told : Result GatheredShown E) (s : Setup) (code : Code) → GatheredLogsAreARun → IsSetup s → IsCode s.protocol code →
+    {E : Type 0} (told : Result GatheredShown E) (s : Setup) (code : Code) → GatheredLogsAreARun → IsSetup s →
+    IsCode s.protocol code →
     IfOk told (λ r. IsOfSome s code r) →
     IfOk told (λ r. (journal : List Entry) → IsMerge s.shape.nodes (log_of r.logs) journal → IsToldRun s journal r)
 run_of told s code law setup is_code h =

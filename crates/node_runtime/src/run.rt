@@ -66,7 +66,8 @@ pub fn run_threads<G: Gate + Sync, R: Threads + Wait + Sync>(
     requires short { length code.now.ops < 2 ^ 22 }
     ensures size { IfOk result (λ r. length r.logs ≡ setup.now.shape.nodes) }
     ensures logs { IfOk result (λ r. (i : ℕ) → i < length r.logs → IsLog i (log_of r.logs i)) }
-    ensures run { IfOk result (λ r. (journal : List Entry) → IsMerge setup.now.shape.nodes (log_of r.logs) journal → IsToldRun setup.now journal r) }
+    ensures run { IfOk result (λ r. (journal : List Entry) → IsMerge setup.now.shape.nodes (log_of r.logs) journal →
+        IsToldRun setup.now journal r) }
 {
     gathered_logs_are_a_run();
     let (wires, ends) = Wires::new(alloc, setup.shape().nodes())?;

@@ -1,5 +1,6 @@
 -- What answers say, by their cases.
-use Rattle.std.proofs.Common.{◌≡◌, Bool, true, false, List, [], ◌∷◌, ◌++◌, Option, None, Some, Result, Ok, Err, refl, ap, ◌∙◌, sym}
+use Rattle.std.proofs.Common.{◌≡◌, Bool, true, false, List, [], ◌∷◌, ◌++◌, Option, None, Some, Result, Ok, Err, refl, ap, ◌∙◌}
+use Rattle.std.proofs.Common.{sym}
 use Rattle.std.specs.Prelude.{IfErr, OnOk, is_some, option_to_list, slice_get}
 use Rattle.std.specs.Result.{is_err}
 use Rattle.tw_base.specs.declared.message.Message.{Message}

@@ -15,5 +15,11 @@ pub seat_send : (a : NamedLft) (N ME : RattleType) (g : Ghosts N.Denot) → IsSe
 seat_send a N ME g leaves =
     view_send _ _ _ _ _ (declared_send (seat_inside.the_type a N ME g) (
       node_send a,
-      (search (sendable, ends.the_send) depth 8, (search (sendable, closed.the_send) depth 8, (search sendable depth 8, (search (sendable, phantom.the_send) depth 8, tt)))),
+      (
+        search (sendable, ends.the_send) depth 8,
+        (
+          search (sendable, closed.the_send) depth 8,
+          (search sendable depth 8, (search (sendable, phantom.the_send) depth 8, tt)),
+        ),
+      ),
     ))

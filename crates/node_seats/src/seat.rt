@@ -1,4 +1,5 @@
-ghost use Rattle.std.specs.Prelude.{◌≡◌, ◌≢◌, ◌*◌, ◌^◌, ◌<◌, ◌≤◌, ◌&&◌, ◌+◌, ◌↔◌, [], Ok, IsTrue, false, true, length, replicate, IfOk, MatchBool, OnErr, OnOk};
+ghost use Rattle.std.specs.Prelude.{◌≡◌, ◌≢◌, ◌*◌, ◌^◌, ◌<◌, ◌≤◌, ◌&&◌, ◌+◌, ◌↔◌, [], Ok, IsTrue, false, true, length};
+ghost use Rattle.std.specs.Prelude.{replicate, IfOk, MatchBool, OnErr, OnOk};
 ghost use Rattle.std.specs.Bool.{OnFalse, OnTrue};
 ghost use Rattle.tw_base.specs.declared.entry.Event.TheVariants as event;
 ghost use Rattle.compiled_meaning.specs.Whole.{IsCode};
@@ -278,7 +279,8 @@ impl<'a, N: Naming, const ME: u8> Seat<'a, N, ME> {
 
     /// The seat's own node, with the ends of its wires.
     pub fn open(self) -> Opened<'a>
-        ensures same { let parts : Seated = record { node = result.node; ends = shown result.ends; closed = result.closed } in parts ≡ self.entry }
+        ensures same { let parts : Seated = record { node = result.node; ends = shown result.ends; closed = result.closed } in
+            parts ≡ self.entry }
         ensures seated { IsSeated N.setup N.code N.wires ME
             (record { node = result.node; ends = shown result.ends; closed = result.closed }) }
     {

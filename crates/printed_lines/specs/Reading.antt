@@ -21,7 +21,8 @@ abbrev pub kind_or : Option (List ℕ) → LineKind
 kind_or None = kinds.Completed
 kind_or (Some word) = kind_by word
 
--- The kind of an event, by the word behind its node: an event that is no fault, redelivery or delivery is an instruction that completed.
+-- The kind of an event, by the word behind its node: an event that is no fault, redelivery or delivery is an instruction that
+-- completed.
 abbrev pub kind_of : List Token → LineKind
 kind_of ts = kind_or (word_at ts 6)
 
@@ -48,9 +49,11 @@ node_of ts = node_at ts 5
 
 abbrev pub event_by : LineKind → List Token → Option Event
 event_by kinds.Redelivered ts = node_of ts >>? λ i. Some (event.Redeliver i)
-event_by kinds.Delivered ts = node_of ts >>? λ i. node_at ts 11 >>? λ from. chan_at ts 13 >>? λ chan. Some (event.Deliver i from chan)
+event_by kinds.Delivered ts = node_of ts >>? λ i. node_at ts 11 >>? λ from. chan_at ts 13 >>? λ chan. Some
+    (event.Deliver i from chan)
 event_by _ ts = node_of ts >>? λ i. Some (event.Instr i)
 
--- the event that a line tells of: an instruction, whether it completed or was refused, a redelivery, or a delivery from a node on a channel
+-- the event that a line tells of: an instruction, whether it completed or was refused, a redelivery, or a delivery from a node
+-- on a channel
 abbrev pub event_in : List Token → Option Event
 event_in ts = event_by (kind_of ts) ts

@@ -23,7 +23,8 @@ whats ts = map (λ t. t.what) ts
 
 -- event k, with its stamp and its node
 abbrev pub event_tokens : ℕ → ℕ → ℕ → List What
-event_tokens k stamp node = Word (codes "event") ∷ Number k ∷ Word (codes "stamp") ∷ Number stamp ∷ Word (codes "node") ∷ Number node ∷ []
+event_tokens k stamp node = Word (codes "event") ∷ Number k ∷ Word (codes "stamp") ∷ Number stamp ∷ Word
+    (codes "node") ∷ Number node ∷ []
 
 abbrev pub chan_number : Chan → ℕ
 chan_number Zero = 0
@@ -40,7 +41,8 @@ act_tokens p (act.Trapped why) = Word (codes "trap") ∷ Word (trap_text why) �
 act_tokens p act.Step = Word (codes "step") ∷ []
 act_tokens p (act.Fault store block) = Word (codes "fault") ∷ Word (fault_text store) ∷ Word (codes "block") ∷ Number block ∷ []
 act_tokens p (act.Redelivered kind block from) =
-    Word (codes "redeliver") ∷ Word (kind_name p kind) ∷ Word (codes "block") ∷ Number block ∷ Word (codes "from") ∷ Number from ∷ []
+    Word (codes "redeliver") ∷ Word (kind_name p kind) ∷ Word (codes "block") ∷ Number block ∷ Word
+    (codes "from") ∷ Number from ∷ []
 act_tokens p (act.Delivered kind block from chan number) =
     Word (codes "deliver") ∷ Word (kind_name p kind) ∷ Word (codes "block") ∷ Number block ∷ Word (codes "from") ∷ Number from
     ∷ Word (codes "channel") ∷ Number (chan_number chan) ∷ Word (codes "number") ∷ Number number ∷ []
@@ -53,7 +55,8 @@ failure_tokens p how.TooDeep = Word (codes "failed") ∷ Word (codes "TooDeep") 
 
 -- what a handler sent, and how it left its block
 abbrev pub left_tokens : Protocol → ℕ → ℕ → Tag → List What
-left_tokens p sends state tag = Word (codes "sends") ∷ Number sends ∷ Word (codes "state") ∷ Word (state_name p state) ∷ Word (codes "tag") ∷ Word (tag_text tag) ∷ []
+left_tokens p sends state tag = Word (codes "sends") ∷ Number sends ∷ Word (codes "state") ∷ Word (state_name p state) ∷ Word
+    (codes "tag") ∷ Word (tag_text tag) ∷ []
 
 -- the same, and how it failed; nothing where no handler ran
 abbrev pub after_tokens : Protocol → ℕ → Option After → List What
@@ -62,4 +65,5 @@ after_tokens p sends (Some after) = left_tokens p sends after.state after.tag ++
 
 -- entry k of a journal, by its place
 abbrev pub entry_tokens : Protocol → ℕ × Entry → List What
-entry_tokens p event = event_tokens event.0 event.1.stamp event.1.node ++ (act_tokens p event.1.act ++ after_tokens p event.1.sends event.1.after)
+entry_tokens p event = event_tokens event.0 event.1.stamp event.1.node
+    ++ (act_tokens p event.1.act ++ after_tokens p event.1.sends event.1.after)

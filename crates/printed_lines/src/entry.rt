@@ -2,7 +2,8 @@ ghost use Rattle.std.specs.Prelude.{◌≡◌};
 ghost use Rattle.std.specs.Option.{option_map};
 ghost use Rattle.tw_base.specs.declared.entry.Act.TheVariants as act;
 ghost use Rattle.printed_lines.specs.Saying.{past, says};
-ghost use Rattle.printed_lines.specs.Tokens.{act_tokens, after_tokens, chan_number, entry_tokens, event_tokens, failure_tokens, left_tokens, whats};
+ghost use Rattle.printed_lines.specs.Tokens.{act_tokens, after_tokens, chan_number, entry_tokens, event_tokens, failure_tokens};
+ghost use Rattle.printed_lines.specs.Tokens.{left_tokens, whats};
 
 use crate::said::{Said, past, says_nothing};
 use printed_text::{Names, fault_text, tag_text, trap_text};
@@ -38,7 +39,8 @@ fn past_fault<'a>(
     block: BlockId,
     tokens: &'a [Token],
 ) -> Option<&'a [Token]>
-    ensures { option_map (λ rest. whats rest.now) result ≡ past (act_tokens names.now.protocol.now (act.Fault store block)) (whats tokens.now) }
+    ensures { option_map (λ rest. whats rest.now) result ≡ past (act_tokens names.now.protocol.now (act.Fault store block))
+        (whats tokens.now) }
 {
     let said = [
         Said::Word(b"fault"),
@@ -56,7 +58,8 @@ fn past_redelivered<'a>(
     from: NodeId,
     tokens: &'a [Token],
 ) -> Option<&'a [Token]>
-    ensures { option_map (λ rest. whats rest.now) result ≡ past (act_tokens names.now.protocol.now (act.Redelivered kind block from)) (whats tokens.now) }
+    ensures { option_map (λ rest. whats rest.now) result ≡ past
+        (act_tokens names.now.protocol.now (act.Redelivered kind block from)) (whats tokens.now) }
 {
     let said = [
         Said::Word(b"redeliver"),
@@ -78,7 +81,8 @@ fn past_delivered<'a>(
     number: u64,
     tokens: &'a [Token],
 ) -> Option<&'a [Token]>
-    ensures { option_map (λ rest. whats rest.now) result ≡ past (act_tokens names.now.protocol.now (act.Delivered kind block from chan number)) (whats tokens.now) }
+    ensures { option_map (λ rest. whats rest.now) result ≡ past
+        (act_tokens names.now.protocol.now (act.Delivered kind block from chan number)) (whats tokens.now) }
 {
     let said = [
         Said::Word(b"deliver"),
@@ -158,7 +162,8 @@ fn past_left<'a>(
     tag: Tag,
     tokens: &'a [Token],
 ) -> Option<&'a [Token]>
-    ensures { option_map (λ rest. whats rest.now) result ≡ past (left_tokens names.now.protocol.now sends state tag) (whats tokens.now) }
+    ensures { option_map (λ rest. whats rest.now) result ≡ past (left_tokens names.now.protocol.now sends state tag)
+        (whats tokens.now) }
 {
     let said = [
         Said::Word(b"sends"),

@@ -1,7 +1,8 @@
 ghost use Rattle.std.specs.Prelude.{◌≡◌, drop};
 ghost use Rattle.std.specs.Option.{option_copied};
 ghost use Rattle.mini_asm.specs.Spelling.{number_at, word_at};
-ghost use Rattle.printed_lines.specs.Reading.{chan_at, chan_numbered, event_in, kind_by, kind_of, node_at, node_numbered, node_of};
+ghost use Rattle.printed_lines.specs.Reading.{chan_at, chan_numbered, event_in, kind_by, kind_of, node_at, node_numbered};
+ghost use Rattle.printed_lines.specs.Reading.{node_of};
 
 use report_reader::LineKind;
 use tw_base::{Chan, Event, Name, NodeId};

@@ -1,5 +1,6 @@
 -- What the entries of a run and the nodes at its end name is there.
-use Rattle.std.proofs.Common.{◌≡◌, ◌∙◌, ℕ, zero, suc, ◌+◌, ◌<◌, ◌≤◌, ◌==◌, cond, Bool, true, false, List, [], ◌∷◌, ◌++◌, Option, Some, None, length, map, refl, sym, ap, subst, inl, inr, arith}
+use Rattle.std.proofs.Common.{◌≡◌, ◌∙◌, ℕ, zero, suc, ◌+◌, ◌<◌, ◌≤◌, ◌==◌, cond, Bool, true, false, List, [], ◌∷◌, ◌++◌, Option}
+use Rattle.std.proofs.Common.{Some, None, length, map, refl, sym, ap, subst, inl, inr, arith}
 use Rattle.std.specs.Prelude.{slice_get, slice_set}
 use Rattle.std.specs.List.{range_with_len}
 use Rattle.std.proofs.Math.ListN.{length-set}
@@ -45,7 +46,8 @@ use Rattle.journal.specs.declared.history.Break.{Break}
 use Rattle.journal.specs.Finals.{counted_final}
 use Rattle.journal.specs.Gathered.{tag_in, told_by, word_in}
 use Rattle.journal.specs.History.{break_at, break_beside, break_from, break_or}
-use Rattle.printed_reports.specs.Named.{IsActOf, IsAfterOf, IsBreakOf, IsEndOf, IsEntryOf, IsFailureOf, IsFinalOf, IsLeft, IsOutcomeOf}
+use Rattle.printed_reports.specs.Named.{IsActOf, IsAfterOf, IsBreakOf, IsEndOf, IsEntryOf, IsFailureOf, IsFinalOf, IsLeft}
+use Rattle.printed_reports.specs.Named.{IsOutcomeOf}
 use Rattle.printed_reports.specs.Runs.{RunsAreTold}
 use Rattle.printed_reports.proofs.Failing.{does-end}
 

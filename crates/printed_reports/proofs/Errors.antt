@@ -11,8 +11,11 @@ use Rattle.teapot_tree.specs.declared.protocol.State.{State}
 use Rattle.teapot_tree.specs.declared.stmt.Do.{Do, fold-Do, fold-roll-Do, map-Do}
 use Rattle.teapot_tree.specs.declared.stmt.Do.TheOpen.{Do-F}
 use Rattle.teapot_tree.specs.declared.stmt.Stmt.{Stmt, fold_out-Stmt}
-use Rattle.teapot_tree.specs.Bodies.{Simple, assign, send, send_all, set_tag, set_state, suspend, resume, install, enqueue, wake_up, error, Body, done, plain, branch, branches, loop, each, body_of, do_of, stmt, tree_of}
-use Rattle.teapot_tree.specs.Parts.{exprs_of, handler_names, names_in, names_of, option_words, simple_words, state_names, trigger_words, words_in}
+use Rattle.teapot_tree.specs.Bodies.{Simple, assign, send, send_all, set_tag, set_state, suspend, resume, install, enqueue}
+use Rattle.teapot_tree.specs.Bodies.{wake_up, error, Body, done, plain, branch, branches, loop, each, body_of, do_of, stmt}
+use Rattle.teapot_tree.specs.Bodies.{tree_of}
+use Rattle.teapot_tree.specs.Parts.{exprs_of, handler_names, names_in, names_of, option_words, simple_words, state_names}
+use Rattle.teapot_tree.specs.Parts.{trigger_words, words_in}
 use Rattle.teapot_tree.proofs.Iso.{tree-body}
 use Rattle.teapot_meaning.specs.Names.{error_names, errors_in, errors_of, errors_step, joined, noted, state_errors}
 use Rattle.teapot_meaning.proofs.Found.{each_both, each_left, each_right}

@@ -1,5 +1,6 @@
 -- A handler fails by an error of its protocol, which has a name.
-use Rattle.std.proofs.Common.{◌≡◌, ℕ, zero, suc, ◌+◌, ◌<◌, ◌||◌, Bool, true, false, cond, List, [], ◌∷◌, ◌++◌, length, Option, Some, None, refl, sym, ap, ◌∙◌, subst, arith}
+use Rattle.std.proofs.Common.{◌≡◌, ℕ, zero, suc, ◌+◌, ◌<◌, ◌||◌, Bool, true, false, cond, List, [], ◌∷◌, ◌++◌, length, Option}
+use Rattle.std.proofs.Common.{Some, None, refl, sym, ap, ◌∙◌, subst, arith}
 use Rattle.std.specs.Prelude.{Contains, nat_le, nat_lt, not, unwrap_or}
 use Rattle.std.specs.List.{flat_map, fold, list_any, position_or_len}
 use Rattle.std.specs.Str.{bytes_eq}
@@ -22,11 +23,14 @@ use Rattle.teapot_tree.specs.declared.stmt.Stmt.{Stmt, fold_out-Stmt}
 use Rattle.teapot_tree.specs.Scopes.{state_number}
 use Rattle.teapot_meaning.specs.Depth.{depth}
 use Rattle.teapot_meaning.specs.Does.{Does}
-use Rattle.teapot_meaning.specs.Fits.{ContFits, Fits, FollowsSuspend, IsLeftBy, at_suspend, fits_below, in_each, in_first, in_loop, in_second, later}
+use Rattle.teapot_meaning.specs.Fits.{ContFits, Fits, FollowsSuspend, IsLeftBy, at_suspend, fits_below, in_each, in_first}
+use Rattle.teapot_meaning.specs.Fits.{in_loop, in_second, later}
 use Rattle.teapot_meaning.specs.Goes.{Goes, ends, goes_on}
 use Rattle.teapot_meaning.specs.Layers.{Layer, what_of}
-use Rattle.teapot_meaning.specs.Names.{declared, error_names, errors_in, errors_of, errors_step, info_number, noted, number_in, state_errors}
-use Rattle.teapot_meaning.specs.Steps.{assigned, assigned_at, branch, each, ended, least_of, led_to, moved, next_of, place_of, resumes, sent, sent_all, set_of, suspended, suspends, tagged, turned, turns, values_of}
+use Rattle.teapot_meaning.specs.Names.{declared, error_names, errors_in, errors_of, errors_step, info_number, noted, number_in}
+use Rattle.teapot_meaning.specs.Names.{state_errors}
+use Rattle.teapot_meaning.specs.Steps.{assigned, assigned_at, branch, each, ended, least_of, led_to, moved, next_of, place_of}
+use Rattle.teapot_meaning.specs.Steps.{resumes, sent, sent_all, set_of, suspended, suspends, tagged, turned, turns, values_of}
 use Rattle.teapot_meaning.specs.Values.{value_of}
 use Rattle.teapot_meaning.specs.declared.state.Cont.{Cont, out-Cont}
 use Rattle.teapot_meaning.specs.declared.state.Ended.{Ended}

@@ -34,7 +34,8 @@ use Rattle.journal.specs.declared.finals.Final.{Final}
 use Rattle.journal.specs.declared.history.Break.{Break}
 use Rattle.printed_lines.specs.Tokens.{chan_number, entry_tokens, whats}
 use Rattle.printed_reports.specs.Named.{IsActOf, IsBreakOf, IsEntryOf, IsLeft, IsOutcomeOf}
-use Rattle.printed_reports.specs.Reports.{count_tokens, head_tokens, history_tokens, node_tokens, print_tokens, register_tokens, word_tokens}
+use Rattle.printed_reports.specs.Reports.{count_tokens, head_tokens, history_tokens, node_tokens, print_tokens, register_tokens}
+use Rattle.printed_reports.specs.Reports.{word_tokens}
 
 -- ---- forms of what is said
 

@@ -1,5 +1,6 @@
 -- Lines that say what the lines of a report do are laid out as it.
-use Rattle.std.proofs.Common.{◌≡◌, ℕ, suc, ◌+◌, ◌<◌, ◌≤◌, ◌==◌, cond, Bool, true, false, List, [], ◌∷◌, ◌++◌, length, map, Some, Ok, refl, sym, ap, ◌∙◌, inl, inr, arith, eq-eqb}
+use Rattle.std.proofs.Common.{◌≡◌, ℕ, suc, ◌+◌, ◌<◌, ◌≤◌, ◌==◌, cond, Bool, true, false, List, [], ◌∷◌, ◌++◌, length, map, Some}
+use Rattle.std.proofs.Common.{Ok, refl, sym, ap, ◌∙◌, inl, inr, arith, eq-eqb}
 use Rattle.std.specs.Prelude.{◌⊎◌, slice_get}
 use Rattle.std.specs.List.{enumerate_from, flat_map}
 use Rattle.std.proofs.lemmas.List.{length-map}
@@ -24,9 +25,13 @@ use Rattle.journal.specs.Laws.{prints_of, with_print}
 use Rattle.printed_lines.specs.Tokens.{entry_tokens}
 use Rattle.printed_reports.specs.Named.{IsEntryOf, IsFinalOf}
 use Rattle.printed_reports.specs.Reading.{PrintedReportsAreRead}
-use Rattle.printed_reports.specs.Reports.{count_tokens, counts_said, end_tokens, events_said, head_tokens, history_tokens, lines_if, node_registers_said, node_tokens, nodes_said, print_tokens, prints_said, register_said, register_tokens, registers_said, said, unless_zero, word_said, word_tokens, words_said}
+use Rattle.printed_reports.specs.Reports.{count_tokens, counts_said, end_tokens, events_said, head_tokens, history_tokens}
+use Rattle.printed_reports.specs.Reports.{lines_if, node_registers_said, node_tokens, nodes_said, print_tokens, prints_said}
+use Rattle.printed_reports.specs.Reports.{register_said, register_tokens, registers_said, said, unless_zero, word_said}
+use Rattle.printed_reports.specs.Reports.{word_tokens, words_said}
 use Rattle.printed_reports.proofs.Naming.{number-said}
-use Rattle.printed_reports.proofs.Fitting.{count-fits, event-fits, fits-said, fits_said, head-fits, history-fits, line-said, line_said, node-fits, of-said, of_said, print-fits, register-fits, word-fits}
+use Rattle.printed_reports.proofs.Fitting.{count-fits, event-fits, fits-said, fits_said, head-fits, history-fits, line-said}
+use Rattle.printed_reports.proofs.Fitting.{line_said, node-fits, of-said, of_said, print-fits, register-fits, word-fits}
 
 -- ---- lines that are cut as what they say is
 

@@ -1,5 +1,7 @@
 -- Printed lines are lexed to the tokens that they say.
-use Rattle.std.proofs.Common.{◌≡◌, ℕ, suc, ◌+◌, ◌<◌, ◌≤◌, Bool, true, false, cond, ◌||◌, ◌&&◌, List, [], ◌∷◌, ◌++◌, length, take, Some, Result, Ok, Err, refl, sym, ap, ◌∙◌, subst, inl, inr, arith, append_assoc, append-nil, length-append}
+use Rattle.std.proofs.Common.{◌≡◌, ℕ, suc, ◌+◌, ◌<◌, ◌≤◌, Bool, true, false, cond, ◌||◌, ◌&&◌, List, [], ◌∷◌, ◌++◌, length}
+use Rattle.std.proofs.Common.{take, Some, Result, Ok, Err, refl, sym, ap, ◌∙◌, subst, inl, inr, arith, append_assoc, append-nil}
+use Rattle.std.proofs.Common.{length-append}
 use Rattle.std.specs.Prelude.{◌==◌, ◌⊎◌, not, nat_le, decimal}
 use Rattle.std.specs.List.{list_all, onto_first, prefix_len}
 use Rattle.std.specs.Option.{option_map}
@@ -17,8 +19,10 @@ use Rattle.tw_lex.specs.declared.token.What.TheVariants as whats
 use Rattle.tw_lex.specs.Bytes.{is_allowed, is_blank, is_digit, is_line_feed, is_word_start, is_word_byte, code_of}
 use Rattle.tw_lex.specs.Lexemes.{lexeme}
 use Rattle.tw_lex.specs.Lines.{line_tokens, lines_from, lines_of, or_bad, tokens_from, tokens_of, with_line}
-use Rattle.printed_reports.specs.Lexing.{IsPlain, IsPlainLine, begins_word, is_word, lines_at, text_line, text_of, tokens_at, what_text}
-use Rattle.teapot_print.proofs.Lexing.{NoBlank, NoWord, all-imply, begins, cond-false, cond-true, decimal-digits, decimal-lexed, one-found, token_at, word-lexed}
+use Rattle.printed_reports.specs.Lexing.{IsPlain, IsPlainLine, begins_word, is_word, lines_at, text_line, text_of, tokens_at}
+use Rattle.printed_reports.specs.Lexing.{what_text}
+use Rattle.teapot_print.proofs.Lexing.{NoBlank, NoWord, all-imply, begins, cond-false, cond-true, decimal-digits, decimal-lexed}
+use Rattle.teapot_print.proofs.Lexing.{one-found, token_at, word-lexed}
 
 -- ---- the bytes of words and numbers
 

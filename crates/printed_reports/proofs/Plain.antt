@@ -1,5 +1,6 @@
 -- Each line of a report is one that is read back.
-use Rattle.std.proofs.Common.{◌≡◌, ℕ, zero, suc, ◌+◌, ◌*◌, ◌^◌, ◌<◌, ◌≤◌, ◌==◌, cond, codes, Bool, true, false, ◌&&◌, List, [], ◌∷◌, length, map, Option, Some, None, is_some, refl, inl, inr, arith}
+use Rattle.std.proofs.Common.{◌≡◌, ℕ, zero, suc, ◌+◌, ◌*◌, ◌^◌, ◌<◌, ◌≤◌, ◌==◌, cond, codes, Bool, true, false, ◌&&◌, List, []}
+use Rattle.std.proofs.Common.{◌∷◌, length, map, Option, Some, None, is_some, refl, inl, inr, arith}
 use Rattle.std.specs.Prelude.{nat_le, slice_get}
 use Rattle.std.specs.List.{enumerate_from, flat_map, list_all}
 use Rattle.std.proofs.Math.Nat.{le-mul_of_pos_right}
@@ -45,8 +46,12 @@ use Rattle.journal.specs.declared.reports.Options.{Options}
 use Rattle.journal.specs.Laws.{prints_of, with_print}
 use Rattle.printed_lines.specs.Tokens.{act_tokens, after_tokens, chan_number, entry_tokens, failure_tokens}
 use Rattle.printed_reports.specs.Lexing.{IsPlain, IsPlainLine, begins_word, is_word}
-use Rattle.printed_reports.specs.Named.{AreSmall, HasSmallCounts, IsActOf, IsBreakOf, IsEndOf, IsEntryOf, IsFinalOf, IsLeft, IsOutcomeOf, IsSmallAct, IsSmallBreak, IsSmallEntry, IsSmallFinal, IsToldOf, Small}
-use Rattle.printed_reports.specs.Reports.{count_tokens, counts_said, end_tokens, events_said, head_tokens, history_tokens, lines_if, node_registers_said, node_tokens, nodes_said, outcome_tokens, print_tokens, prints_said, register_said, register_tokens, registers_said, report_said, unless_zero, word_said, word_tokens, words_said}
+use Rattle.printed_reports.specs.Named.{AreSmall, HasSmallCounts, IsActOf, IsBreakOf, IsEndOf, IsEntryOf, IsFinalOf, IsLeft}
+use Rattle.printed_reports.specs.Named.{IsOutcomeOf, IsSmallAct, IsSmallBreak, IsSmallEntry, IsSmallFinal, IsToldOf, Small}
+use Rattle.printed_reports.specs.Reports.{count_tokens, counts_said, end_tokens, events_said, head_tokens, history_tokens}
+use Rattle.printed_reports.specs.Reports.{lines_if, node_registers_said, node_tokens, nodes_said, outcome_tokens, print_tokens}
+use Rattle.printed_reports.specs.Reports.{prints_said, register_said, register_tokens, registers_said, report_said, unless_zero}
+use Rattle.printed_reports.specs.Reports.{word_said, word_tokens, words_said}
 use Rattle.printed_reports.proofs.Errors.{error-names}
 
 -- ---- names

@@ -1,5 +1,6 @@
 -- The text of a report is that of its lines.
-use Rattle.std.proofs.Common.{◌≡◌, ℕ, ◌==◌, cond, codes, Bool, true, false, List, [], ◌∷◌, ◌++◌, map, Option, Some, None, refl, sym, ap, ◌∙◌, append_assoc, append-nil}
+use Rattle.std.proofs.Common.{◌≡◌, ℕ, ◌==◌, cond, codes, Bool, true, false, List, [], ◌∷◌, ◌++◌, map, Option, Some, None, refl}
+use Rattle.std.proofs.Common.{sym, ap, ◌∙◌, append_assoc, append-nil}
 use Rattle.std.specs.Prelude.{decimal}
 use Rattle.std.specs.Fmt.{digits}
 use Rattle.std.specs.List.{enumerate_from, flat_map}
@@ -25,10 +26,14 @@ use Rattle.journal.specs.declared.finals.Final.{Final}
 use Rattle.journal.specs.declared.history.Break.{Break}
 use Rattle.journal.specs.declared.reports.Options.{Options}
 use Rattle.journal.specs.Laws.{ReportPrints, print_text, prints_of}
-use Rattle.journal.specs.Reports.{act_words, after_words, count_line, event_line, head, history_line, if_asked, node_line, outcome_words, register_line, register_lines, report_of, word_line}
+use Rattle.journal.specs.Reports.{act_words, after_words, count_line, event_line, head, history_line, if_asked, node_line}
+use Rattle.journal.specs.Reports.{outcome_words, register_line, register_lines, report_of, word_line}
 use Rattle.printed_lines.specs.Tokens.{act_tokens, after_tokens, chan_number, entry_tokens, failure_tokens}
 use Rattle.printed_reports.specs.Lexing.{text_line, text_of, what_text}
-use Rattle.printed_reports.specs.Reports.{count_tokens, counts_said, end_tokens, events_said, head_tokens, history_tokens, lines_if, node_registers_said, node_tokens, nodes_said, outcome_tokens, print_tokens, prints_said, register_said, register_tokens, registers_said, report_said, unless_zero, word_said, word_tokens, words_said}
+use Rattle.printed_reports.specs.Reports.{count_tokens, counts_said, end_tokens, events_said, head_tokens, history_tokens}
+use Rattle.printed_reports.specs.Reports.{lines_if, node_registers_said, node_tokens, nodes_said, outcome_tokens, print_tokens}
+use Rattle.printed_reports.specs.Reports.{prints_said, register_said, register_tokens, registers_said, report_said, unless_zero}
+use Rattle.printed_reports.specs.Reports.{word_said, word_tokens, words_said}
 
 -- ---- one line
 

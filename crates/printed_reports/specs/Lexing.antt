@@ -1,5 +1,6 @@
 -- Lines that are printed, and the tokens that they are lexed to.
-use Rattle.std.specs.Prelude.{◌≡◌, ◌<◌, ℕ, ◌+◌, ◌^◌, ◌&&◌, nat_le, decimal, Bool, true, false, List, [], ◌∷◌, ◌++◌, map, length, Ok}
+use Rattle.std.specs.Prelude.{◌≡◌, ◌<◌, ℕ, ◌+◌, ◌^◌, ◌&&◌, nat_le, decimal, Bool, true, false, List, [], ◌∷◌, ◌++◌, map, length}
+use Rattle.std.specs.Prelude.{Ok}
 use Rattle.std.specs.List.{list_all, flat_map}
 use Rattle.tw_base.specs.Lists.{Each}
 use Rattle.tw_lex.specs.Bytes.{is_line_feed, is_word_start, is_word_byte}

@@ -12,7 +12,8 @@ use Rattle.journal.specs.declared.reports.Options.{Options}
 use Rattle.journal.specs.Reports.{report_of}
 use Rattle.printed_reports.specs.Lexing.{ends_line}
 use Rattle.printed_reports.specs.Named.{AreSmall, IsToldOf}
-use Rattle.printed_reports.specs.Reports.{counts_said, events_said, history_tokens, nodes_said, prints_said, registers_said, report_said, said, words_said}
+use Rattle.printed_reports.specs.Reports.{counts_said, events_said, history_tokens, nodes_said, prints_said, registers_said}
+use Rattle.printed_reports.specs.Reports.{report_said, said, words_said}
 
 -- These lines are read as the report of this setup, journal, ends, words and history: the lines of each kind say what was
 -- printed, in that order, and nothing else stands between.

@@ -21,5 +21,6 @@ pub line-made : (old begun more end word : List ℕ) (first words rest : List (L
 line-made old begun more end word first words rest p q r =
     r ∙ ap (λ l. l ++ (spaced rest ++ 10 ∷ [])) (q ∙ ap (λ l. l ++ spaced words) p)
     ∙ regrouped old word (spaced first) (spaced words) (spaced rest) (10 ∷ [])
-    ∙ ap (λ l. old ++ (word ++ (l ++ 10 ∷ []))) (sym (spaced-append first (words ++ rest) ∙ ap (λ l. spaced first ++ l) (spaced-append words rest)))
+    ∙ ap (λ l. old ++ (word ++ (l ++ 10 ∷ []))) (sym (spaced-append first (words ++ rest)
+    ∙ ap (λ l. spaced first ++ l) (spaced-append words rest)))
     ∙ ap (λ l. old ++ l) (sym (line-spaced word (first ++ (words ++ rest))))

@@ -22,13 +22,15 @@ no-refusal : (r : Result Protocol ParseError) (e : ParseError) (p : Protocol) �
 no-refusal (Ok q) e p t h = absurd cc
 no-refusal (Err x) e p t h = absurd cc
 
-pub reads-well : (text : List ℕ) → IsAcceptedText text → (found : Lexed) (e : ParseError) → lexed text ≡ Ok found → parsed found.list found.all ≡ Err e → ⊥
+pub reads-well : (text : List ℕ) → IsAcceptedText text → (found : Lexed) (e : ParseError) → lexed text ≡ Ok found →
+    parsed found.list found.all ≡ Err e → ⊥
 unfolding protocol_of
 reads-well text is found e l h =
     let t : read_in (parsed found.list found.all) ≡ Some is.0 = sym (ap tree_in l) ∙ is.1 in
     no-refusal (parsed found.list found.all) e is.0 t h
 
-pub reads-as : (text : List ℕ) (found : Lexed) (p : Protocol) → lexed text ≡ Ok found → parsed found.list found.all ≡ Ok p → protocol_of text ≡ Some p
+pub reads-as : (text : List ℕ) (found : Lexed) (p : Protocol) → lexed text ≡ Ok found → parsed found.list found.all ≡ Ok p →
+    protocol_of text ≡ Some p
 unfolding protocol_of
 reads-as text found p l r = ap tree_in l ∙ ap read_in r
 

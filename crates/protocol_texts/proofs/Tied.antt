@@ -29,17 +29,21 @@ onto (l ∷ ls) text = line_text 0 l.1 ++ onto ls text
 -- the lines before the states, before a text
 abbrev pub head_text : Protocol → List ℕ → List ℕ
 head_text p text =
-    line_text 0 (f.Protocol p.name p.profile) ++ onto (map message_line p.messages) (onto (map info_line p.infos) (onto (map start_line p.starts) text))
+    line_text 0 (f.Protocol p.name p.profile) ++ onto (map message_line p.messages)
+    (onto (map info_line p.infos) (onto (map start_line p.starts) text))
 
-messages-text : (ms : List MessageDecl) (rest : Lines) → lines_text 0 (map message_line ms ++ rest) ≡ onto (map message_line ms) (lines_text 0 rest)
+messages-text : (ms : List MessageDecl) (rest : Lines) → lines_text 0 (map message_line ms ++ rest)
+    ≡ onto (map message_line ms) (lines_text 0 rest)
 messages-text [] rest = refl
 messages-text (m ∷ ms) rest = ap (λ y. line_text 0 (message_line m).1 ++ y) (messages-text ms rest)
 
-infos-text : (infos : List Param) (rest : Lines) → lines_text 0 (map info_line infos ++ rest) ≡ onto (map info_line infos) (lines_text 0 rest)
+infos-text : (infos : List Param) (rest : Lines) → lines_text 0 (map info_line infos ++ rest)
+    ≡ onto (map info_line infos) (lines_text 0 rest)
 infos-text [] rest = refl
 infos-text (a ∷ infos) rest = ap (λ y. line_text 0 (info_line a).1 ++ y) (infos-text infos rest)
 
-starts-text : (ss : List Start) (rest : Lines) → lines_text 0 (map start_line ss ++ rest) ≡ onto (map start_line ss) (lines_text 0 rest)
+starts-text : (ss : List Start) (rest : Lines) → lines_text 0 (map start_line ss ++ rest)
+    ≡ onto (map start_line ss) (lines_text 0 rest)
 starts-text [] rest = refl
 starts-text (s ∷ ss) rest = ap (λ y. line_text 0 (start_line s).1 ++ y) (starts-text ss rest)
 
@@ -57,7 +61,8 @@ canon-is p told is = head-is p ∙ ap (head_text p) (ap (λ ss. lines_text 0 (fl
 
 -- ---- the text is read as that tree
 
-pub text_of : CanonIsReadBack → (tree : Protocol) (text : List ℕ) → IsTree tree → bare_protocol tree ≡ tree → canon tree ≡ text → IsTextOf tree text
+pub text_of : CanonIsReadBack → (tree : Protocol) (text : List ℕ) → IsTree tree → bare_protocol tree ≡ tree →
+    canon tree ≡ text → IsTextOf tree text
 unfolding protocol_of
 text_of back tree text grown literal same =
     let b = back tree grown in
@@ -72,8 +77,10 @@ text_of back tree text grown literal same =
 some-one : (p q : Protocol) (o : Option Protocol) → o ≡ Some p → o ≡ Some q → q ≡ p
 some-one p q o a b = cc
 
-pub is-literal : (tree : Protocol) (text : List ℕ) → IsTextOf tree text → (c : Protocol) → protocol_of text ≡ Some c → bare_protocol c ≡ tree
+pub is-literal : (tree : Protocol) (text : List ℕ) → IsTextOf tree text → (c : Protocol) → protocol_of text ≡ Some c →
+    bare_protocol c ≡ tree
 is-literal tree text is c e = subst (λ p. bare_protocol p ≡ tree) (some-one c is.0 (protocol_of text) e is.1) is.3
 
-pub accepted-text : (tree : Protocol) (text : List ℕ) → IsTextOf tree text → ((p : Protocol) → bare_protocol p ≡ tree → IsAccepted p) → IsAcceptedText text
+pub accepted-text : (tree : Protocol) (text : List ℕ) → IsTextOf tree text →
+    ((p : Protocol) → bare_protocol p ≡ tree → IsAccepted p) → IsAcceptedText text
 accepted-text tree text is law = (is.0, is.1, law is.0 is.3)

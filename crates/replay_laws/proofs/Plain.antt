@@ -20,7 +20,8 @@ is_plain (Word w) = true
 is_plain (Number n) = true
 is_plain (Mark m) = false
 
-plain-append : (xs ys : List What) → list_all is_plain xs ≡ true → list_all is_plain ys ≡ true → list_all is_plain (xs ++ ys) ≡ true
+plain-append : (xs ys : List What) → list_all is_plain xs ≡ true → list_all is_plain ys ≡ true →
+    list_all is_plain (xs ++ ys) ≡ true
 plain-append [] ys h k = k
 plain-append (x ∷ xs) ys h k =
     let parts = and_parts (is_plain x) (list_all is_plain xs) h in
@@ -48,7 +49,8 @@ plain-after p sends None = refl
 plain-after p sends (Some after) = plain-failure p after.end
 
 plain-entry : (p : Protocol) (k : ℕ) (e : Entry) → list_all is_plain (entry_tokens p (k, e)) ≡ true
-plain-entry p k e = plain-append (act_tokens p e.act) (after_tokens p e.sends e.after) (plain-act p e.act) (plain-after p e.sends e.after)
+plain-entry p k e = plain-append (act_tokens p e.act) (after_tokens p e.sends e.after) (plain-act p e.act)
+    (plain-after p e.sends e.after)
 
 same-one : (w : What) → is_plain w ≡ true → same_what w w ≡ true
 same-one (Word w) h = (bytes_eq-Decides w w).1 refl
@@ -59,8 +61,10 @@ says-same : (ds : List What) → list_all is_plain ds ≡ true → says ds ds �
 unfolding says
 says-same [] h = refl
 says-same (d ∷ ds) h =
-    let parts = and_parts (is_plain d) (list_all is_plain ds) h in ap (λ (b : Bool). b && says ds ds) (same-one d parts.0) ∙ says-same ds parts.1
+    let parts = and_parts (is_plain d) (list_all is_plain ds) h in ap (λ (b : Bool). b && says ds ds) (same-one d parts.0)
+    ∙ says-same ds parts.1
 
 -- a line that is an entry's own says so
-pub says-entry : (p : Protocol) (k : ℕ) (e : Entry) (ts : List What) → ts ≡ entry_tokens p (k, e) → says (entry_tokens p (k, e)) ts ≡ true
+pub says-entry : (p : Protocol) (k : ℕ) (e : Entry) (ts : List What) → ts ≡ entry_tokens p (k, e) →
+    says (entry_tokens p (k, e)) ts ≡ true
 says-entry p k e ts is = ap (says (entry_tokens p (k, e))) is ∙ says-same (entry_tokens p (k, e)) (plain-entry p k e)

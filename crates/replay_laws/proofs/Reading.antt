@@ -37,7 +37,8 @@ chan_in ws i = number_in ws i >>? λ n. chan_numbered n
 
 abbrev event_as : LineKind → List What → Option Event
 event_as kinds.Redelivered ws = node_in ws 5 >>? λ i. Some (event.Redeliver i)
-event_as kinds.Delivered ws = node_in ws 5 >>? λ i. node_in ws 11 >>? λ from. chan_in ws 13 >>? λ chan. Some (event.Deliver i from chan)
+event_as kinds.Delivered ws = node_in ws 5 >>? λ i. node_in ws 11 >>? λ from. chan_in ws 13 >>? λ chan. Some
+    (event.Deliver i from chan)
 event_as _ ws = node_in ws 5 >>? λ i. Some (event.Instr i)
 
 mapped : {B : Type 0} (f : What → Option B) (o : Option Token) → (o >>? λ t. f t.what) ≡ (option_map (λ t. t.what) o >>? f)
@@ -48,7 +49,8 @@ word-in : (ts : List Token) (i : ℕ) → word_at ts i ≡ word_in (whats ts) i
 word-in ts i = mapped word_of (slice_get ts i) ∙ ap (λ (o : Option What). o >>? word_of) (sym (slice_get-map (λ t. t.what) ts i))
 
 number-in : (ts : List Token) (i : ℕ) → number_at ts i ≡ number_in (whats ts) i
-number-in ts i = mapped number_of_token (slice_get ts i) ∙ ap (λ (o : Option What). o >>? number_of_token) (sym (slice_get-map (λ t. t.what) ts i))
+number-in ts i = mapped number_of_token (slice_get ts i) ∙ ap (λ (o : Option What). o >>? number_of_token)
+    (sym (slice_get-map (λ t. t.what) ts i))
 
 event-as : (kind : LineKind) (ts : List Token) → event_by kind ts ≡ event_as kind (whats ts)
 event-as kinds.Redelivered ts = rw (number-in ts 5) refl
@@ -65,7 +67,8 @@ event-as kinds.End ts = rw (number-in ts 5) refl
 
 event-of : (ts : List Token) (ws : List What) → whats ts ≡ ws → event_in ts ≡ event_as (kind_or (word_in ws 6)) ws
 event-of ts ws is =
-    event-as (kind_of ts) ts ∙ ap (λ (o : Option (List ℕ)). event_as (kind_or o) (whats ts)) (word-in ts 6) ∙ ap (λ (us : List What). event_as (kind_or (word_in us 6)) us) is
+    event-as (kind_of ts) ts ∙ ap (λ (o : Option (List ℕ)). event_as (kind_or o) (whats ts)) (word-in ts 6)
+    ∙ ap (λ (us : List What). event_as (kind_or (word_in us 6)) us) is
 
 -- ---- of an entry
 
@@ -82,7 +85,8 @@ node-is : (n : ℕ) → n < 8 → node_numbered n ≡ Some n
 node-is n lt = rw (lt-ltb n 8 lt) refl
 
 named : (p : Protocol) (k stamp node : ℕ) (a : Act) (rest : List What) → node < 8 → HasSender a →
-    let ws : List What = event_tokens k stamp node ++ (act_tokens p a ++ rest) in event_as (kind_or (word_in ws 6)) ws ≡ Some (event_at node a)
+    let ws : List What = event_tokens k stamp node ++ (act_tokens p a ++ rest) in event_as (kind_or (word_in ws 6)) ws
+    ≡ Some (event_at node a)
 named p k stamp node (act.Load address value) rest lt from = rw (node-is node lt) refl
 named p k stamp node (act.Store address value) rest lt from = rw (node-is node lt) refl
 named p k stamp node (act.Faa address value sum) rest lt from = rw (node-is node lt) refl
@@ -92,8 +96,11 @@ named p k stamp node (act.Trapped why) rest lt from = rw (node-is node lt) refl
 named p k stamp node act.Step rest lt from = rw (node-is node lt) refl
 named p k stamp node (act.Fault store block) rest lt from = rw (node-is node lt) refl
 named p k stamp node (act.Redelivered kind block sender) rest lt from = rw (node-is node lt) refl
-named p k stamp node (act.Delivered kind block sender chan number) rest lt from = rw (node-is node lt, node-is sender from, numbered-chan chan) refl
+named p k stamp node (act.Delivered kind block sender chan number) rest lt from =
+    rw (node-is node lt, node-is sender from, numbered-chan chan) refl
 
 -- the event that the line names is the entry's
-pub event-named : (p : Protocol) (k : ℕ) (e : Entry) (ts : List Token) → whats ts ≡ entry_tokens p (k, e) → e.node < 8 → HasSender e.act → event_in ts ≡ Some (event_of e)
-event-named p k e ts is lt from = event-of ts (entry_tokens p (k, e)) is ∙ named p k e.stamp e.node e.act (after_tokens p e.sends e.after) lt from
+pub event-named : (p : Protocol) (k : ℕ) (e : Entry) (ts : List Token) → whats ts ≡ entry_tokens p (k, e) → e.node < 8 →
+    HasSender e.act → event_in ts ≡ Some (event_of e)
+event-named p k e ts is lt from = event-of ts (entry_tokens p (k, e)) is
+    ∙ named p k e.stamp e.node e.act (after_tokens p e.sends e.after) lt from

@@ -1,5 +1,6 @@
 -- A report whose events say what the entries of a run do is replayed.
-use Rattle.std.proofs.Common.{◌≡◌, ℕ, zero, suc, ◌+◌, ◌<◌, ◌≤◌, true, false, nat_lt, List, [], ◌∷◌, length, map, take, Option, Ok, refl, sym, ap, ◌∙◌, arith}
+use Rattle.std.proofs.Common.{◌≡◌, ℕ, zero, suc, ◌+◌, ◌<◌, ◌≤◌, true, false, nat_lt, List, [], ◌∷◌, length, map, take, Option}
+use Rattle.std.proofs.Common.{Ok, refl, sym, ap, ◌∙◌, arith}
 use Rattle.std.specs.List.{enumerate_from}
 use Rattle.std.proofs.lemmas.Bool.{le-ltb}
 use Rattle.tw_base.specs.declared.entry.Act.{Act}
@@ -22,8 +23,10 @@ use Rattle.replay_laws.specs.Laws.{PrintedRunsAreReplayed, said_by}
 use Rattle.replay_laws.proofs.Plain.{says-entry}
 use Rattle.replay_laws.proofs.Reading.{HasSender, event-named}
 
-sender : (s : Setup) (i : ℕ) (l : Local) (front : Option Message) (l2 : Local) (e : Entry) (sends : List Message) (a : Act) → s.shape.nodes ≤ 8 → Acts s i l front l2 e sends a → HasSender a
-sender s i l front l2 e sends (act.Delivered kind block from chan number) few acts = let within : from < s.shape.nodes = acts.from_node in omega arith
+sender : (s : Setup) (i : ℕ) (l : Local) (front : Option Message) (l2 : Local) (e : Entry) (sends : List Message) (a : Act) →
+    s.shape.nodes ≤ 8 → Acts s i l front l2 e sends a → HasSender a
+sender s i l front l2 e sends (act.Delivered kind block from chan number) few acts = let within : from < s.shape.nodes =
+    acts.from_node in omega arith
 sender s i l front l2 e sends (act.Load address value) few acts = tt
 sender s i l front l2 e sends (act.Store address value) few acts = tt
 sender s i l front l2 e sends (act.Faa address value sum) few acts = tt
@@ -35,13 +38,15 @@ sender s i l front l2 e sends (act.Fault store block) few acts = tt
 sender s i l front l2 e sends (act.Redelivered kind block from) few acts = tt
 
 -- the line of an entry that a step gave
-one : (s : Setup) (g : World) (k : ℕ) (l : PrintedLine) (e : Entry) (next : World) → s.shape.nodes ≤ 8 → whats l.tokens ≡ entry_tokens s.protocol (k, e) → Step s g e next → Leads s g k (l ∷ []) (Ok next)
+one : (s : Setup) (g : World) (k : ℕ) (l : PrintedLine) (e : Entry) (next : World) → s.shape.nodes ≤ 8 →
+    whats l.tokens ≡ entry_tokens s.protocol (k, e) → Step s g e next → Leads s g k (l ∷ []) (Ok next)
 one s g k l e next few is step =
     let here : e.node < s.shape.nodes = step.local.at_node in
     let below : e.node < 8 = omega arith in
     let test : is_enabled s g (event_of e) ≡ true = (enabled_decides s g (event_of e)).1 (step_enabled s g e next step) in
     made-told s g k l (event_of e) e next
-    (event-named s.protocol k e l.tokens is below (sender s e.node (g.locals e.node) step.front (next.locals e.node) e step.sends e.act few step.local.acts)) test refl step
+    (event-named s.protocol k e l.tokens is below (sender s e.node (g.locals e.node) step.front
+    (next.locals e.node) e step.sends e.act few step.local.acts)) test refl step
     (says-entry s.protocol k e (whats l.tokens) is)
 
 -- the state behind the first k of entries and lines
@@ -53,7 +58,8 @@ record Reached (s : Setup) (g : World) (k at : ℕ) (es : List Entry) (lines : L
 abbrev told : Setup → ℕ → List Entry → List (List What)
 told s at es = map (entry_tokens s.protocol) (enumerate_from at es)
 
-reaching : (s : Setup) (g h : World) (k at : ℕ) (es : List Entry) (lines : List PrintedLine) → s.shape.nodes ≤ 8 → Runs s g es h → said_by lines ≡ told s at es → Reached s g k at es lines
+reaching : (s : Setup) (g h : World) (k at : ℕ) (es : List Entry) (lines : List PrintedLine) → s.shape.nodes ≤ 8 →
+    Runs s g es h → said_by lines ≡ told s at es → Reached s g k at es lines
 reaching s g h zero at es lines few runs say = record { world = g; runs = refl; leads = refl }
 reaching s g h (suc k) at [] [] few runs say = record { world = g; runs = refl; leads = refl }
 reaching s g h (suc k) at [] (l ∷ ls) few runs say = absurd (cc say)

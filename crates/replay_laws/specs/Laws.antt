@@ -32,4 +32,5 @@ pub record IsReplayed (s : Setup) (j : List Entry) (p : Printed) (k : ℕ) : Typ
 -- A report whose events say what the entries of a run do, each by its place, is replayed up to each of them.
 abbrev pub PrintedRunsAreReplayed : Type 0
 PrintedRunsAreReplayed =
-    (s : Setup) (j : List Entry) (g : World) (p : Printed) (k : ℕ) → IsSetup s → Runs s (start s) j g → said_by p.events ≡ journal_tokens s.protocol j → k ≤ length j → IsReplayed s j p k
+    (s : Setup) (j : List Entry) (g : World) (p : Printed) (k : ℕ) → IsSetup s → Runs s (start s) j g →
+    said_by p.events ≡ journal_tokens s.protocol j → k ≤ length j → IsReplayed s j p k

@@ -7,7 +7,8 @@ use Rattle.dsm_runs.specs.Setups.{Setup}
 use Rattle.report_reader.specs.declared.error.AuditError.{AuditError}
 use Rattle.report_reader.specs.declared.error.AuditError.TheVariants.{Denied}
 use Rattle.report_reader.specs.declared.error.AuditRule.{AuditRule}
-use Rattle.report_reader.specs.declared.error.AuditRule.TheVariants.{WrongPrint, WrongWord, WrongRegister, WrongNode, WrongHistory}
+use Rattle.report_reader.specs.declared.error.AuditRule.TheVariants.{WrongPrint, WrongWord, WrongRegister, WrongNode}
+use Rattle.report_reader.specs.declared.error.AuditRule.TheVariants.{WrongHistory}
 use Rattle.report_reader.specs.declared.lines.Printed.{Printed}
 use Rattle.report_reader.specs.declared.lines.PrintedLine.{PrintedLine}
 use Rattle.printed_lines.specs.Saying.{says}
@@ -55,9 +56,9 @@ agreement = Word (codes "history") ∷ Word (codes "agrees") ∷ []
 abbrev pub wrong_history : Printed → Option ℕ
 wrong_history p = if says agreement (whats p.history.tokens) then None else Some p.history.line
 
--- The lines of a report beside the flat machine of its setup, which executes the instructions that completed, in the order of the report: the
--- acts; then the prints, the words and the registers, which are the machine's and no others; the nodes; and the history. Denied by the
--- first rule that is broken, at its first line.
+-- The lines of a report beside the flat machine of its setup, which executes the instructions that completed, in the order of
+-- the report: the acts; then the prints, the words and the registers, which are the machine's and no others; the nodes; and the
+-- history. Denied by the first rule that is broken, at its first line.
 unfoldable pub audited : Setup → Printed → Result Audited AuditError
 audited s p =
     executed s.protocol (begun s) p.events >>= λ x.

@@ -1,5 +1,6 @@
 -- The instructions that a report tells of, executed on the flat machine.
-use Rattle.std.specs.Prelude.{ℕ, if◌then◌else◌, Bool, true, false, List, [], ◌∷◌, ◌++◌, drop, count_by, Option, Some, None, Result, Ok, Err}
+use Rattle.std.specs.Prelude.{ℕ, if◌then◌else◌, Bool, true, false, List, [], ◌∷◌, ◌++◌, drop, count_by, Option, Some, None}
+use Rattle.std.specs.Prelude.{Result, Ok, Err}
 use Rattle.tw_base.specs.Answers.{◌>>=◌}
 use Rattle.tw_base.specs.declared.entry.Act.{Act}
 use Rattle.tw_base.specs.declared.entry.Act.TheVariants as act
@@ -48,7 +49,8 @@ print_due node _ = []
 abbrev pub executed_as : Protocol → Executed → PrintedLine → ℕ → Option (Act × Machine) → Result Executed AuditError
 executed_as p x l node None = Err (Denied l.line WrongAct)
 executed_as p x l node (Some did) =
-    if says (act_tokens p did.0) (whats (drop 6 l.tokens)) then Ok (record { flat = did.1; prints = x.prints ++ print_due node did.0 })
+    if says (act_tokens p did.0) (whats (drop 6 l.tokens)) then Ok
+    (record { flat = did.1; prints = x.prints ++ print_due node did.0 })
     else Err (Denied l.line WrongAct)
 
 abbrev pub executed_at : Protocol → Executed → PrintedLine → Option ℕ → Result Executed AuditError

@@ -48,7 +48,8 @@ abbrev pub is_due : Option Due → List Token → Bool
 is_due None ts = false
 is_due (Some d) ts = says (due_tokens d) (whats ts)
 
--- The first line that differs from the one that is due at its place. Where all agree and more are due, it is the one behind them, `next`.
+-- The first line that differs from the one that is due at its place. Where all agree and more are due, it is the one behind
+-- them, `next`.
 unfoldable pub first_other : List Due → List PrintedLine → ℕ → Option ℕ
 first_other [] [] next = None
 first_other (d ∷ ds) [] next = Some next

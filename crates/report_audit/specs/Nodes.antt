@@ -1,5 +1,6 @@
 -- The lines of nodes beside the flat machine and the events.
-use Rattle.std.specs.Prelude.{ℕ, nat_eq, if◌then◌else◌, ◌&&◌, ◌||◌, codes, Bool, true, false, List, [], ◌∷◌, ◌++◌, count_by, slice_get, Option, Some, None, unwrap_or}
+use Rattle.std.specs.Prelude.{ℕ, nat_eq, if◌then◌else◌, ◌&&◌, ◌||◌, codes, Bool, true, false, List, [], ◌∷◌, ◌++◌, count_by}
+use Rattle.std.specs.Prelude.{slice_get, Option, Some, None, unwrap_or}
 use Rattle.tw_lex.specs.declared.token.Token.{Token}
 use Rattle.tw_lex.specs.declared.token.What.{What}
 use Rattle.tw_lex.specs.declared.token.What.TheVariants.{Word, Number}
@@ -63,14 +64,15 @@ name_tokens node = Word (codes "node") ∷ Number node ∷ []
 
 abbrev pub count_tokens : ℕ → ℕ → ℕ → List What
 count_tokens place instructions handlers =
-    Word (codes "place") ∷ Number place ∷ Word (codes "instructions") ∷ Number instructions ∷ Word (codes "handlers") ∷ Number handlers ∷ []
+    Word (codes "place") ∷ Number place ∷ Word (codes "instructions") ∷ Number instructions ∷ Word
+    (codes "handlers") ∷ Number handlers ∷ []
 
 -- a node that ended so
 abbrev pub node_tokens : ℕ → List What → ℕ → ℕ → ℕ → List What
 node_tokens node end place instructions handlers = name_tokens node ++ (end ++ count_tokens place instructions handlers)
 
--- The line of a node says how its processor stands, or that the node is spent or failed, of which the flat machine knows nothing; and its
--- place and the numbers of its events are these.
+-- The line of a node says how its processor stands, or that the node is spent or failed, of which the flat machine knows
+-- nothing; and its place and the numbers of its events are these.
 abbrev pub is_node_line : ℕ → FlatMode → ℕ → ℕ → ℕ → List Token → Bool
 is_node_line node mode place instructions handlers ts =
     says (node_tokens node (end_tokens mode) place instructions handlers) (whats ts)
@@ -80,7 +82,8 @@ is_node_line node mode place instructions handlers ts =
 -- with this processor
 abbrev pub is_line_beside : List PrintedLine → ℕ → Option Core → List Token → Bool
 is_line_beside events node None ts = false
-is_line_beside events node (Some core) ts = is_node_line node core.mode core.cpu.place (tried node events) (handled node events) ts
+is_line_beside events node (Some core) ts = is_node_line node core.mode core.cpu.place (tried node events)
+    (handled node events) ts
 
 abbrev pub is_line_of : List PrintedLine → Machine → Option ℕ → List Token → Bool
 is_line_of events m None ts = false

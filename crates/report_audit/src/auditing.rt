@@ -1,9 +1,11 @@
 ghost use Rattle.std.specs.Prelude.{◌≡◌, length, IfOk};
 ghost use Rattle.tw_base.specs.Answers.{Gives};
 ghost use Rattle.report_reader.specs.Reading.{is_memory};
-ghost use Rattle.report_audit.specs.Audits.{audited, from_nodes, from_registers, from_words, line_or, pass, wrong_history, wrong_print, wrong_register, wrong_word};
+ghost use Rattle.report_audit.specs.Audits.{audited, from_nodes, from_registers, from_words, line_or, pass, wrong_history};
+ghost use Rattle.report_audit.specs.Audits.{wrong_print, wrong_register, wrong_word};
 ghost use Rattle.report_audit.specs.Nodes.{wrong_node};
-ghost use Rattle.report_reader.specs.declared.error.AuditRule.TheVariants.{WrongPrint, WrongWord, WrongRegister, WrongNode, WrongHistory};
+ghost use Rattle.report_reader.specs.declared.error.AuditRule.TheVariants.{WrongPrint, WrongWord, WrongRegister, WrongNode};
+ghost use Rattle.report_reader.specs.declared.error.AuditRule.TheVariants.{WrongHistory};
 
 use crate::execute::{Executed, completed, execute};
 use crate::lines::{first_other, registers_due, words_due};

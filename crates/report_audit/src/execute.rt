@@ -4,7 +4,8 @@ ghost use Rattle.dsm_runs.specs.Flat.{flat_start, flat_step};
 ghost use Rattle.report_reader.specs.Reading.{is_memory};
 ghost use Rattle.printed_lines.specs.Saying.{says};
 ghost use Rattle.printed_lines.specs.Tokens.{act_tokens, whats};
-ghost use Rattle.report_audit.specs.Executing.{begun, completed, executed, executed_as, executed_at, is_completed, line_executed, print_due};
+ghost use Rattle.report_audit.specs.Executing.{begun, completed, executed, executed_as, executed_at, is_completed};
+ghost use Rattle.report_audit.specs.Executing.{line_executed, print_due};
 
 use crate::due::Due;
 use dsm_runs::Setup;
@@ -98,7 +99,8 @@ fn execute_next(
     line: &PrintedLine,
     node: NodeId,
 ) -> Result<(), AuditError>
-    ensures value { Gives is_memory (λ _. done.new) result (executed_as names.now.protocol.now done.old line.now node (flat_step done.old.flat node)) }
+    ensures value { Gives is_memory (λ _. done.new) result (executed_as names.now.protocol.now done.old line.now node
+        (flat_step done.old.flat node)) }
     ensures cores { length done.new.flat.cores ≡ length done.old.flat.cores }
 {
     let Some(act) = flat_step(&mut done.flat, node) else {

@@ -1,6 +1,7 @@
 ghost use Rattle.std.specs.Prelude.{◌≡◌, ◌<◌, [], length, map, unwrap_or, Some};
 ghost use Rattle.mini_asm.specs.Spelling.{word_at};
-ghost use Rattle.report_audit.specs.Nodes.{end_tokens, failed_tokens, handled, is_handled, is_line_of, is_node, is_node_line, is_right, is_tried, node_tokens, tried, wrong_node};
+ghost use Rattle.report_audit.specs.Nodes.{end_tokens, failed_tokens, handled, is_handled, is_line_of, is_node, is_node_line};
+ghost use Rattle.report_audit.specs.Nodes.{is_right, is_tried, node_tokens, tried, wrong_node};
 ghost use Rattle.printed_lines.specs.Saying.{meant, says};
 ghost use Rattle.printed_lines.specs.Tokens.{whats};
 
@@ -64,7 +65,8 @@ struct Stands {
 }
 
 fn says_so(stands: Stands, end: &[Said], tokens: &[Token]) -> bool
-    ensures { result ≡ says (node_tokens stands.node (map meant end.now) stands.place stands.tried stands.handled) (whats tokens.now) }
+    ensures { result ≡ says (node_tokens stands.node (map meant end.now) stands.place stands.tried stands.handled)
+        (whats tokens.now) }
 {
     let Some(ending) = past(&[Said::Word(b"node"), Said::Number(stands.node)], tokens) else {
         return false;
@@ -84,7 +86,8 @@ fn says_so(stands: Stands, end: &[Said], tokens: &[Token]) -> bool
 }
 
 fn says_mode(stands: Stands, mode: FlatMode, tokens: &[Token]) -> bool
-    ensures { result ≡ says (node_tokens stands.node (end_tokens mode) stands.place stands.tried stands.handled) (whats tokens.now) }
+    ensures { result ≡ says (node_tokens stands.node (end_tokens mode) stands.place stands.tried stands.handled)
+        (whats tokens.now) }
 {
     match mode {
         FlatMode::Running => says_so(stands, &[Said::Word(b"stuck")], tokens),
@@ -107,7 +110,8 @@ fn name_at(tokens: &[Token], at: usize) -> &[u8]
 
 // Whether a line says that its node failed, by any name.
 fn says_failed(stands: Stands, tokens: &[Token]) -> bool
-    ensures { result ≡ says (node_tokens stands.node (failed_tokens tokens.now) stands.place stands.tried stands.handled) (whats tokens.now) }
+    ensures { result ≡ says (node_tokens stands.node (failed_tokens tokens.now) stands.place stands.tried stands.handled)
+        (whats tokens.now) }
 {
     let name = Said::Word(name_at(tokens, 3));
     says_so(stands, &[Said::Word(b"failed"), name], tokens)

@@ -1,5 +1,6 @@
 -- The first word of a line tells its kind.
-use Rattle.std.proofs.Common.{◌≡◌, ◌⊎◌, ℕ, codes, Bool, true, false, ◌&&◌, ◌||◌, not, List, [], ◌∷◌, ◌++◌, refl, ap, sym, ◌∙◌, subst, inl, inr}
+use Rattle.std.proofs.Common.{◌≡◌, ◌⊎◌, ℕ, codes, Bool, true, false, ◌&&◌, ◌||◌, not, List, [], ◌∷◌, ◌++◌, refl, ap, sym, ◌∙◌}
+use Rattle.std.proofs.Common.{subst, inl, inr}
 use Rattle.std.specs.List.{list_any}
 use Rattle.std.specs.Str.{bytes_eq}
 use Rattle.std.proofs.lemmas.Slice.Eq.{bytes_eq-Decides}
@@ -68,28 +69,34 @@ says-what shape k v (whats.Word u) e = ap (λ (x : List ℕ). whats.Word x) ((by
 says-what shape k v (whats.Number n) e = cc
 says-what shape k v (whats.Mark m) e = cc
 
-form-begins : (w : List ℕ) (form : List Slot) → Heads w form → (shape : Sizes) (k : ℕ) (ts : List Token) → fits shape k form ts ≡ true → Begins w ts
+form-begins : (w : List ℕ) (form : List Slot) → Heads w form → (shape : Sizes) (k : ℕ) (ts : List Token) →
+    fits shape k form ts ≡ true → Begins w ts
 unfolding fits
 form-begins w [] h shape k ts e = absurd h
 form-begins w (Says v ∷ slots) h shape k [] e = absurd cc
 form-begins w (Says v ∷ slots) h shape k (t ∷ ts) e =
-    says-what shape k v t.what (and-first (fits_what shape k (Says v) t.what) (fits shape k slots ts) e) ∙ ap (λ (x : List ℕ). whats.Word x) h
+    says-what shape k v t.what (and-first (fits_what shape k (Says v) t.what) (fits shape k slots ts) e)
+    ∙ ap (λ (x : List ℕ). whats.Word x) h
 form-begins w (_ ∷ slots) h shape k ts e = absurd h
 
-some-begins : (w : List ℕ) (forms : List (List Slot)) → AllHead w forms → (shape : Sizes) (k : ℕ) (ts : List Token) → list_any (λ form. fits shape k form ts) forms ≡ true → Begins w ts
+some-begins : (w : List ℕ) (forms : List (List Slot)) → AllHead w forms → (shape : Sizes) (k : ℕ) (ts : List Token) →
+    list_any (λ form. fits shape k form ts) forms ≡ true → Begins w ts
 some-begins w [] h shape k ts e = absurd cc
 some-begins w (form ∷ forms) h shape k ts e = go (fits shape k form ts) refl e (some-begins w forms h.1 shape k ts)
   where
-    go : (b : Bool) → fits shape k form ts ≡ b → (b || list_any (λ f. fits shape k f ts) forms) ≡ true → (list_any (λ f. fits shape k f ts) forms ≡ true → Begins w ts) → Begins w ts
+    go : (b : Bool) → fits shape k form ts ≡ b → (b || list_any (λ f. fits shape k f ts) forms) ≡ true →
+        (list_any (λ f. fits shape k f ts) forms ≡ true → Begins w ts) → Begins w ts
     go true is or later = form-begins w form h.0 shape k ts is
     go false is or later = later or
 
-pub line-begins : (shape : Sizes) (kind : LineKind) (k : ℕ) (ts : List Token) → is_line shape kind k ts ≡ true → Begins (keyword kind) ts
+pub line-begins : (shape : Sizes) (kind : LineKind) (k : ℕ) (ts : List Token) → is_line shape kind k ts ≡ true →
+    Begins (keyword kind) ts
 line-begins shape kind k ts e = some-begins (keyword kind) (forms_of kind) (headed kind) shape k ts e
 
 -- ---- and a line that begins with another word is not of the form
 
-other-form : (w v : List ℕ) (form : List Slot) → Heads v form → bytes_eq w v ≡ false → (shape : Sizes) (k : ℕ) (ts : List Token) → Begins w ts → fits shape k form ts ≡ false
+other-form : (w v : List ℕ) (form : List Slot) → Heads v form → bytes_eq w v ≡ false →
+    (shape : Sizes) (k : ℕ) (ts : List Token) → Begins w ts → fits shape k form ts ≡ false
 unfolding fits
 other-form w v [] h ne shape k ts b = absurd h
 other-form w v (Says u ∷ slots) h ne shape k [] b = absurd b
@@ -97,11 +104,14 @@ other-form w v (Says u ∷ slots) h ne shape k (t ∷ ts) b =
     let no : fits_what shape k (Says u) t.what ≡ false = ap (fits_what shape k (Says u)) b ∙ ap (bytes_eq w) h ∙ ne in rw no refl
 other-form w v (_ ∷ slots) h ne shape k ts b = absurd h
 
-no-form : (w v : List ℕ) (forms : List (List Slot)) → AllHead v forms → bytes_eq w v ≡ false → (shape : Sizes) (k : ℕ) (ts : List Token) → Begins w ts → list_any (λ form. fits shape k form ts) forms ≡ false
+no-form : (w v : List ℕ) (forms : List (List Slot)) → AllHead v forms → bytes_eq w v ≡ false →
+    (shape : Sizes) (k : ℕ) (ts : List Token) → Begins w ts → list_any (λ form. fits shape k form ts) forms ≡ false
 no-form w v [] h ne shape k ts b = refl
-no-form w v (form ∷ forms) h ne shape k ts b = rw (other-form w v form h.0 ne shape k ts b) (no-form w v forms h.1 ne shape k ts b)
+no-form w v (form ∷ forms) h ne shape k ts b = rw (other-form w v form h.0 ne shape k ts b)
+    (no-form w v forms h.1 ne shape k ts b)
 
-other-line : (shape : Sizes) (kind : LineKind) (k : ℕ) (ts : List Token) (w : List ℕ) → bytes_eq w (keyword kind) ≡ false → Begins w ts → is_line shape kind k ts ≡ false
+other-line : (shape : Sizes) (kind : LineKind) (k : ℕ) (ts : List Token) (w : List ℕ) → bytes_eq w (keyword kind) ≡ false →
+    Begins w ts → is_line shape kind k ts ≡ false
 other-line shape kind k ts w ne b = no-form w (keyword kind) (forms_of kind) (headed kind) ne shape k ts b
 
 -- ---- lines whose first begins with one of some words
@@ -131,14 +141,17 @@ and-second : (a b : Bool) → (a && b) ≡ true → b ≡ true
 and-second true b e = e
 and-second false b e = absurd cc
 
-apart-line : (shape : Sizes) (kind : LineKind) (k : ℕ) (ts : List Token) (ws : List (List ℕ)) → is_apart kind ws ≡ true → OneOf ws ts → is_line shape kind k ts ≡ false
+apart-line : (shape : Sizes) (kind : LineKind) (k : ℕ) (ts : List Token) (ws : List (List ℕ)) → is_apart kind ws ≡ true →
+    OneOf ws ts → is_line shape kind k ts ≡ false
 apart-line shape kind k ts [] e o = absurd o
 apart-line shape kind k ts (w ∷ ws) e o = elim o as (λ x. is_line shape kind k ts ≡ false) [
-  | inl b ↦ other-line shape kind k ts w (not-true (bytes_eq w (keyword kind)) (and-first (not (bytes_eq w (keyword kind))) (is_apart kind ws) e)) b
+  | inl b ↦ other-line shape kind k ts w (not-true (bytes_eq w (keyword kind))
+      (and-first (not (bytes_eq w (keyword kind))) (is_apart kind ws) e)) b
   | inr r ↦ apart-line shape kind k ts ws (and-second (not (bytes_eq w (keyword kind))) (is_apart kind ws) e) r
 ]
 
-pub apart-of : (shape : Sizes) (wanted : List LineKind) (k : ℕ) (ts : List Token) (ws : List (List ℕ)) → are_apart wanted ws ≡ true → OneOf ws ts → is_of shape wanted k ts ≡ false
+pub apart-of : (shape : Sizes) (wanted : List LineKind) (k : ℕ) (ts : List Token) (ws : List (List ℕ)) →
+    are_apart wanted ws ≡ true → OneOf ws ts → is_of shape wanted k ts ≡ false
 apart-of shape [] k ts ws e o = refl
 apart-of shape (kind ∷ wanted) k ts ws e o =
     rw (apart-line shape kind k ts ws (and-first (is_apart kind ws) (are_apart wanted ws) e) o)
@@ -149,16 +162,19 @@ abbrev pub HaveWord : List ℕ → List LineKind → Type 0
 HaveWord w [] = Unit {0}
 HaveWord w (kind ∷ wanted) = (keyword kind ≡ w) × HaveWord w wanted
 
-of-begins : (shape : Sizes) (wanted : List LineKind) (k : ℕ) (ts : List Token) (w : List ℕ) → HaveWord w wanted → is_of shape wanted k ts ≡ true → Begins w ts
+of-begins : (shape : Sizes) (wanted : List LineKind) (k : ℕ) (ts : List Token) (w : List ℕ) → HaveWord w wanted →
+    is_of shape wanted k ts ≡ true → Begins w ts
 of-begins shape [] k ts w h e = absurd cc
 of-begins shape (kind ∷ wanted) k ts w h e = go (is_line shape kind k ts) refl e (of-begins shape wanted k ts w h.1)
   where
-    go : (b : Bool) → is_line shape kind k ts ≡ b → (b || is_of shape wanted k ts) ≡ true → (is_of shape wanted k ts ≡ true → Begins w ts) → Begins w ts
+    go : (b : Bool) → is_line shape kind k ts ≡ b → (b || is_of shape wanted k ts) ≡ true →
+        (is_of shape wanted k ts ≡ true → Begins w ts) → Begins w ts
     go true is or later = subst (λ (v : List ℕ). Begins v ts) h.0 (line-begins shape kind k ts is)
     go false is or later = later or
 
 -- lines of some kinds before others
-pub opens-before : (shape : Sizes) (wanted : List LineKind) (k : ℕ) (xs rest : List Line) (w : List ℕ) (ws : List (List ℕ)) → HaveWord w wanted → AreOf shape wanted k xs → Opens ws rest →
+pub opens-before : (shape : Sizes) (wanted : List LineKind) (k : ℕ) (xs rest : List Line) (w : List ℕ) (ws : List (List ℕ)) →
+    HaveWord w wanted → AreOf shape wanted k xs → Opens ws rest →
     Opens (w ∷ ws) (xs ++ rest)
 opens-before shape wanted k [] [] w ws h a o = absurd o
 opens-before shape wanted k [] (l ∷ ls) w ws h a o = inr o

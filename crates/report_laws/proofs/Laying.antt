@@ -1,17 +1,20 @@
 -- The lines of a report are read kind by kind.
-use Rattle.std.proofs.Common.{◌≡◌, ◌⊎◌, ℕ, ◌+◌, ◌==◌, ◌||◌, codes, Bool, true, false, List, [], ◌∷◌, ◌++◌, length, Ok, refl, ap, sym, ◌∙◌, inl, inr, arith, eq-eqb}
+use Rattle.std.proofs.Common.{◌≡◌, ◌⊎◌, ℕ, ◌+◌, ◌==◌, ◌||◌, codes, Bool, true, false, List, [], ◌∷◌, ◌++◌, length, Ok, refl, ap}
+use Rattle.std.proofs.Common.{sym, ◌∙◌, inl, inr, arith, eq-eqb}
 use Rattle.std.proofs.lemmas.List.{drop_at, take_at}
 use Rattle.tw_base.specs.Shape.{Sizes}
 use Rattle.tw_lex.specs.declared.token.Line.{Line}
 use Rattle.report_reader.specs.declared.kind.LineKind.{LineKind}
 use Rattle.report_reader.specs.declared.kind.LineKind.TheVariants as kinds
 use Rattle.report_reader.specs.Forms.{is_line}
-use Rattle.report_reader.specs.Reading.{behind, event_kinds, front, history_in, past_counts, past_head, past_nodes, read_in, report_with, stretch, told_in}
+use Rattle.report_reader.specs.Reading.{behind, event_kinds, front, history_in, past_counts, past_head, past_nodes, read_in}
+use Rattle.report_reader.specs.Reading.{report_with, stretch, told_in}
 use Rattle.report_laws.specs.Laws.{AreOf, IsLaidOut, LaidOutReportsAreRead}
 use Rattle.report_laws.proofs.Keywords.{Opens, apart-of, are_apart, line-begins, opens-before}
 
 -- as many as are of the kinds
-stretch-over : (shape : Sizes) (wanted : List LineKind) (k : ℕ) (xs rest : List Line) (ws : List (List ℕ)) → are_apart wanted ws ≡ true → AreOf shape wanted k xs → Opens ws rest →
+stretch-over : (shape : Sizes) (wanted : List LineKind) (k : ℕ) (xs rest : List Line) (ws : List (List ℕ)) →
+    are_apart wanted ws ≡ true → AreOf shape wanted k xs → Opens ws rest →
     stretch shape wanted k (xs ++ rest) ≡ length xs
 unfolding stretch
 stretch-over shape wanted k [] [] ws e a o = absurd o
@@ -26,12 +29,14 @@ record Parts (shape : Sizes) (wanted : List LineKind) (xs rest : List Line) : Ty
   fronts : front shape wanted (xs ++ rest) ≡ xs
   behinds : behind shape wanted (xs ++ rest) ≡ rest
 
-parts : (shape : Sizes) (wanted : List LineKind) (xs rest : List Line) (ws : List (List ℕ)) → are_apart wanted ws ≡ true → AreOf shape wanted 0 xs → Opens ws rest → Parts shape wanted xs rest
+parts : (shape : Sizes) (wanted : List LineKind) (xs rest : List Line) (ws : List (List ℕ)) → are_apart wanted ws ≡ true →
+    AreOf shape wanted 0 xs → Opens ws rest → Parts shape wanted xs rest
 parts shape wanted xs rest ws e a o =
     let count = stretch-over shape wanted 0 xs rest ws e a o in
     record { count = count; fronts = take_at xs rest _ (sym count); behinds = drop_at xs rest _ (sym count) }
 
-nodes-past : (shape : Sizes) (after : ℕ) (xs rest : List Line) → Parts shape (kinds.Node ∷ []) xs rest → length xs ≡ shape.nodes → past_nodes shape after (xs ++ rest) ≡ Ok rest
+nodes-past : (shape : Sizes) (after : ℕ) (xs rest : List Line) → Parts shape (kinds.Node ∷ []) xs rest →
+    length xs ≡ shape.nodes → past_nodes shape after (xs ++ rest) ≡ Ok rest
 unfolding past_nodes
 nodes-past shape after xs rest p e =
     let all : (stretch shape (kinds.Node ∷ []) 0 (xs ++ rest) == shape.nodes) ≡ true = eq-eqb _ _ (p.count ∙ e) in
@@ -47,37 +52,50 @@ none-or-all n m h = elim h as (λ x. ((n == 0) || (n == m)) ≡ true) [
     or-true true = refl
     or-true false = refl
 
-counts-past : (shape : Sizes) (after : ℕ) (xs rest : List Line) → Parts shape (kinds.Counts ∷ []) xs rest → (length xs ≡ 0) ⊎ (length xs ≡ shape.nodes) → past_counts shape after (xs ++ rest) ≡ Ok rest
+counts-past : (shape : Sizes) (after : ℕ) (xs rest : List Line) → Parts shape (kinds.Counts ∷ []) xs rest →
+    (length xs ≡ 0) ⊎ (length xs ≡ shape.nodes) → past_counts shape after (xs ++ rest) ≡ Ok rest
 unfolding past_counts
 counts-past shape after xs rest p h =
     let n = stretch shape (kinds.Counts ∷ []) 0 (xs ++ rest) in
     let some : ((n == 0) || (n == shape.nodes)) ≡ true = rw p.count (none-or-all (length xs) shape.nodes h) in
     rw some (ap (λ (l : List Line). Ok l) p.behinds)
 
-history-told : (shape : Sizes) (after : ℕ) (history ending : Line) → is_line shape kinds.History 0 history.tokens ≡ true → is_line shape kinds.End 0 ending.tokens ≡ true →
+history-told : (shape : Sizes) (after : ℕ) (history ending : Line) → is_line shape kinds.History 0 history.tokens ≡ true →
+    is_line shape kinds.End 0 ending.tokens ≡ true →
     history_in shape after (history ∷ ending ∷ []) ≡ Ok history
 unfolding history_in
 history-told shape after history ending h e = rw (h, e) refl
 
-told-laid : (version : ℕ) (shape : Sizes) (after : ℕ) (lines prints words registers nodes counts events : List Line) (history : Line) →
+told-laid : (version : ℕ) (shape : Sizes) (after : ℕ) (lines prints words registers nodes counts events : List Line)
+    (history : Line) →
     (l : IsLaidOut version shape lines prints words registers nodes counts events history) →
-    told_in shape after (prints ++ (words ++ (registers ++ (nodes ++ (counts ++ (events ++ (history ∷ l.ending ∷ []))))))) ≡ Ok (report_with prints words registers nodes events history)
+    told_in shape after (prints ++ (words ++ (registers ++ (nodes ++ (counts ++ (events ++ (history ∷ l.ending ∷ [])))))))
+    ≡ Ok (report_with prints words registers nodes events history)
 unfolding told_in
 told-laid version shape after lines prints words registers nodes counts events history l =
     let last = history ∷ l.ending ∷ [] in
     let w6 : Opens (codes "history" ∷ []) last = inl (line-begins shape kinds.History 0 history.tokens l.history_is) in
-    let w5 = opens-before shape event_kinds 0 events last (codes "event") (codes "history" ∷ []) (refl, (refl, (refl, (refl, tt)))) l.events_are w6 in
-    let w4 = opens-before shape (kinds.Counts ∷ []) 0 counts (events ++ last) (codes "counts") (codes "event" ∷ codes "history" ∷ []) (refl, tt) l.counts_are w5 in
-    let w3 = opens-before shape (kinds.Node ∷ []) 0 nodes (counts ++ (events ++ last)) (codes "node") (codes "counts" ∷ codes "event" ∷ codes "history" ∷ []) (refl, tt) l.nodes_are w4 in
+    let w5 = opens-before shape event_kinds 0 events last (codes "event") (codes "history" ∷ [])
+    (refl, (refl, (refl, (refl, tt)))) l.events_are w6 in
+    let w4 = opens-before shape (kinds.Counts ∷ []) 0 counts (events ++ last) (codes "counts")
+    (codes "event" ∷ codes "history" ∷ []) (refl, tt) l.counts_are w5 in
+    let w3 = opens-before shape (kinds.Node ∷ []) 0 nodes (counts ++ (events ++ last)) (codes "node")
+    (codes "counts" ∷ codes "event" ∷ codes "history" ∷ []) (refl, tt) l.nodes_are w4 in
     let w2 = opens-before shape (kinds.Register ∷ []) 0 registers (nodes ++ (counts ++ (events ++ last))) (codes "register")
     (codes "node" ∷ codes "counts" ∷ codes "event" ∷ codes "history" ∷ []) (refl, tt) l.registers_are w3 in
     let w1 = opens-before shape (kinds.Word ∷ []) 0 words (registers ++ (nodes ++ (counts ++ (events ++ last)))) (codes "word")
     (codes "register" ∷ codes "node" ∷ codes "counts" ∷ codes "event" ∷ codes "history" ∷ []) (refl, tt) l.words_are w2 in
-    let p1 = parts shape (kinds.Print ∷ []) prints (words ++ (registers ++ (nodes ++ (counts ++ (events ++ last))))) (codes "word" ∷ codes "register" ∷ codes "node" ∷ codes "counts" ∷ codes "event" ∷ codes "history" ∷ []) refl l.prints_are w1 in
-    let p2 = parts shape (kinds.Word ∷ []) words (registers ++ (nodes ++ (counts ++ (events ++ last)))) (codes "register" ∷ codes "node" ∷ codes "counts" ∷ codes "event" ∷ codes "history" ∷ []) refl l.words_are w2 in
-    let p3 = parts shape (kinds.Register ∷ []) registers (nodes ++ (counts ++ (events ++ last))) (codes "node" ∷ codes "counts" ∷ codes "event" ∷ codes "history" ∷ []) refl l.registers_are w3 in
-    let p4 = parts shape (kinds.Node ∷ []) nodes (counts ++ (events ++ last)) (codes "counts" ∷ codes "event" ∷ codes "history" ∷ []) refl l.nodes_are w4 in
-    let p5 = parts shape (kinds.Counts ∷ []) counts (events ++ last) (codes "event" ∷ codes "history" ∷ []) refl l.counts_are w5 in
+    let p1 = parts shape (kinds.Print ∷ []) prints (words ++ (registers ++ (nodes ++ (counts ++ (events ++ last)))))
+    (codes "word" ∷ codes "register" ∷ codes "node" ∷ codes "counts" ∷ codes "event" ∷ codes "history" ∷ []) refl
+    l.prints_are w1 in
+    let p2 = parts shape (kinds.Word ∷ []) words (registers ++ (nodes ++ (counts ++ (events ++ last))))
+    (codes "register" ∷ codes "node" ∷ codes "counts" ∷ codes "event" ∷ codes "history" ∷ []) refl l.words_are w2 in
+    let p3 = parts shape (kinds.Register ∷ []) registers (nodes ++ (counts ++ (events ++ last)))
+    (codes "node" ∷ codes "counts" ∷ codes "event" ∷ codes "history" ∷ []) refl l.registers_are w3 in
+    let p4 = parts shape (kinds.Node ∷ []) nodes (counts ++ (events ++ last))
+    (codes "counts" ∷ codes "event" ∷ codes "history" ∷ []) refl l.nodes_are w4 in
+    let p5 = parts shape (kinds.Counts ∷ []) counts (events ++ last)
+    (codes "event" ∷ codes "history" ∷ []) refl l.counts_are w5 in
     let p6 = parts shape event_kinds events last (codes "history" ∷ []) refl l.events_are w6 in
     rw (
       p1.behinds,

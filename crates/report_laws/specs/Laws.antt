@@ -13,9 +13,10 @@ abbrev pub AreOf : Sizes → List LineKind → ℕ → List Line → Type 0
 AreOf shape wanted before [] = Unit {0}
 AreOf shape wanted before (l ∷ ls) = (is_of shape wanted before l.tokens ≡ true) × AreOf shape wanted (before + 1) ls
 
--- the first line, prints, words, registers, a line of each node, counts of each node or of none, events that are numbered from 0 in
--- order, the history, and `end`
-pub record IsLaidOut (version : ℕ) (shape : Sizes) (lines prints words registers nodes counts events : List Line) (history : Line) : Type 0 where
+-- the first line, prints, words, registers, a line of each node, counts of each node or of none, events that are numbered from
+-- 0 in order, the history, and `end`
+pub record IsLaidOut (version : ℕ) (shape : Sizes) (lines prints words registers nodes counts events : List Line)
+    (history : Line) : Type 0 where
   pub head : Line
   pub ending : Line
   pub in_order : lines ≡ head ∷ (prints ++ (words ++ (registers ++ (nodes ++ (counts ++ (events ++ (history ∷ ending ∷ [])))))))

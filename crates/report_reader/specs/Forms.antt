@@ -5,18 +5,21 @@ use Rattle.tw_base.specs.Shape.{Sizes}
 use Rattle.tw_lex.specs.declared.token.Token.{Token}
 use Rattle.report_reader.specs.declared.kind.LineKind.{LineKind}
 use Rattle.report_reader.specs.declared.kind.LineKind.TheVariants as kinds
-use Rattle.report_reader.specs.Slots.{Slot, Says, Name, Trap, Tag, Number, Is, Node, Next, Register, Address, Block, Channel, fits}
+use Rattle.report_reader.specs.Slots.{Slot, Says, Name, Trap, Tag, Number, Is, Node, Next, Register, Address, Block, Channel}
+use Rattle.report_reader.specs.Slots.{fits}
 
 -- the first line, which names the setup
 abbrev pub head_form : ℕ → Sizes → List Slot
 head_form version shape =
-    Says (codes "tempest") ∷ Says (codes "report") ∷ Is version ∷ Says (codes "nodes") ∷ Is shape.nodes ∷ Says (codes "words") ∷ Is shape.words
+    Says (codes "tempest") ∷ Says (codes "report") ∷ Is version ∷ Says (codes "nodes") ∷ Is shape.nodes ∷ Says
+    (codes "words") ∷ Is shape.words
     ∷ Says (codes "blocks") ∷ Is shape.blocks ∷ Says (codes "budget") ∷ Is shape.budget ∷ []
 
 -- a node that ended so
 abbrev pub node_form : List Slot → List Slot
 node_form outcome =
-    Says (codes "node") ∷ Next ∷ outcome ++ Says (codes "place") ∷ Number ∷ Says (codes "instructions") ∷ Number ∷ Says (codes "handlers") ∷ Number ∷ []
+    Says (codes "node") ∷ Next ∷ outcome ++ Says (codes "place") ∷ Number ∷ Says (codes "instructions") ∷ Number ∷ Says
+    (codes "handlers") ∷ Number ∷ []
 
 -- an event that did this
 abbrev pub event_form : List Slot → List Slot
@@ -66,7 +69,8 @@ forms_of kinds.Delivered =
     ∷ Says (codes "number") ∷ Number ∷ [])
 forms_of kinds.History =
     (Says (codes "history") ∷ Says (codes "agrees") ∷ [])
-    ∷ (Says (codes "history") ∷ Says (codes "broken") ∷ Says (codes "event") ∷ Number ∷ Says (codes "node") ∷ Node ∷ Says (codes "address") ∷ Address
+    ∷ (Says (codes "history") ∷ Says (codes "broken") ∷ Says (codes "event") ∷ Number ∷ Says (codes "node") ∷ Node ∷ Says
+    (codes "address") ∷ Address
     ∷ Says (codes "read") ∷ Number ∷ Says (codes "due") ∷ Number ∷ [])
     ∷ []
 forms_of kinds.End = (Says (codes "end") ∷ []) ∷ []

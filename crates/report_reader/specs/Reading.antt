@@ -1,5 +1,6 @@
 -- The lines of a report in their order, or the first that is at fault.
-use Rattle.std.specs.Prelude.{ℕ, ◌+◌, ◌==◌, ◌||◌, if◌then◌else◌, Bool, true, false, List, [], ◌∷◌, map, take, drop, Option, Some, None, Result, Ok, Err}
+use Rattle.std.specs.Prelude.{ℕ, ◌+◌, ◌==◌, ◌||◌, if◌then◌else◌, Bool, true, false, List, [], ◌∷◌, map, take, drop, Option}
+use Rattle.std.specs.Prelude.{Some, None, Result, Ok, Err}
 use Rattle.std.specs.List.{list_any}
 use Rattle.tw_base.specs.Answers.{◌>>=◌}
 use Rattle.tw_base.specs.Shape.{Sizes}
@@ -122,8 +123,8 @@ report_with prints words registers nodes events history = record {
   history = printed_line history;
 }
 
--- The lines behind the first: the prints, the words, the registers, the nodes, their counts, the events, the history, and `end`. A line that
--- is at fault is denied first, and then events that are not numbered in order.
+-- The lines behind the first: the prints, the words, the registers, the nodes, their counts, the events, the history, and
+-- `end`. A line that is at fault is denied first, and then events that are not numbered in order.
 unfoldable pub told_in : Sizes → ℕ → List Line → Result Printed AuditError
 told_in shape after prints =
     let words = behind shape (kinds.Print ∷ []) prints in
@@ -133,7 +134,8 @@ told_in shape after prints =
     past_counts shape after counts >>= λ events.
     history_in shape after (behind shape event_kinds events) >>= λ history.
     numbered 0 (front shape event_kinds events) >>= λ count.
-    Ok (report_with (front shape (kinds.Print ∷ []) prints) (front shape (kinds.Word ∷ []) words) (front shape (kinds.Register ∷ []) registers)
+    Ok (report_with (front shape (kinds.Print ∷ []) prints) (front shape (kinds.Word ∷ []) words)
+    (front shape (kinds.Register ∷ []) registers)
     (front shape (kinds.Node ∷ []) nodes) (front shape event_kinds events) history)
 
 -- the lines of a report, of a machine of this version and shape

@@ -1,7 +1,8 @@
 ghost use Rattle.std.specs.Prelude.{◌≡◌, ◌≤◌, [], ◌∷◌, length, drop, IfOk};
 ghost use Rattle.tw_base.specs.Answers.{Gives};
 ghost use Rattle.mini_asm.specs.Spelling.{number_at};
-ghost use Rattle.report_reader.specs.Reading.{behind, front, history_in, is_memory, is_number, is_of, misfit, numbered, past_counts, past_head, past_nodes, read_in, report_with, stretch, told_in};
+ghost use Rattle.report_reader.specs.Reading.{behind, front, history_in, is_memory, is_number, is_of, misfit, numbered};
+ghost use Rattle.report_reader.specs.Reading.{past_counts, past_head, past_nodes, read_in, report_with, stretch, told_in};
 
 use crate::form::{is_head, is_line};
 use crate::lines::{copy_line, copy_lines};

@@ -1,5 +1,6 @@
 -- The events of a report, made again on the model.
-use Rattle.std.specs.Prelude.{◌≡◌, ℕ, ◌+◌, nat_lt, if◌then◌else◌, Bool, true, false, List, [], ◌∷◌, length, take, Option, Some, None, Result, Ok, Err}
+use Rattle.std.specs.Prelude.{◌≡◌, ℕ, ◌+◌, nat_lt, if◌then◌else◌, Bool, true, false, List, [], ◌∷◌, length, take, Option, Some}
+use Rattle.std.specs.Prelude.{None, Result, Ok, Err}
 use Rattle.tw_base.specs.Answers.{◌>>=◌}
 use Rattle.tw_base.specs.declared.entry.Entry.{Entry}
 use Rattle.tw_base.specs.declared.entry.Event.{Event}
@@ -48,13 +49,15 @@ Told true l Rest end = Rest end
 Told false l Rest end = end ≡ Err (Denied l.line OtherEntry)
 
 -- where the event of the line is enabled, it is made
-abbrev pub Happens : Bool → Setup → World → ℕ → PrintedLine → (World → Result World AuditError → Type 0) → Result World AuditError → Type 0
+abbrev pub Happens : Bool → Setup → World → ℕ → PrintedLine → (World → Result World AuditError → Type 0) →
+    Result World AuditError → Type 0
 Happens false s g k l Rest end = end ≡ Err (Denied l.line NotEnabled)
 Happens true s g k l Rest end = (e : Entry) × (next : World) × Makes s g l e next × Told (is_told s k e l) l (Rest next) end
 
 -- ---- lines in their order
 
--- The lines of events k, k + 1 .. lead from g to this end: a state, or the first line whose event is not enabled or gives another entry.
+-- The lines of events k, k + 1 .. lead from g to this end: a state, or the first line whose event is not enabled or gives
+-- another entry.
 abbrev pub Leads : Setup → World → ℕ → List PrintedLine → Result World AuditError → Type 0
 Leads s g k [] end = end ≡ Ok g
 Leads s g k (l ∷ ls) end = Happens (may_happen s g (event_in l.tokens)) s g k l (λ next. Leads s next (k + 1) ls) end

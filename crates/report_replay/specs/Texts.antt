@@ -1,5 +1,6 @@
 -- What is written of a state that a replay came to.
-use Rattle.std.specs.Prelude.{ℕ, ◌==◌, nat_eq, if◌then◌else◌, min, codes, length, count_by, List, [], ◌∷◌, ◌++◌, Option, Some, None}
+use Rattle.std.specs.Prelude.{ℕ, ◌==◌, nat_eq, if◌then◌else◌, min, codes, length, count_by, List, [], ◌∷◌, ◌++◌, Option, Some}
+use Rattle.std.specs.Prelude.{None}
 use Rattle.std.specs.Fmt.{decimal}
 use Rattle.std.specs.List.{flat_map, range_with_len}
 use Rattle.tw_base.specs.declared.entry.End.{End}
@@ -34,7 +35,8 @@ stand_text None m = mode_text m
 
 abbrev pub stand_line : ℕ → List ℕ → ℕ → ℕ → ℕ → ℕ → ℕ → List ℕ
 stand_line i stand place clock instructions handled sent =
-    line (codes "node" ∷ decimal i ∷ stand ∷ codes "place" ∷ decimal place ∷ codes "clock" ∷ decimal clock ∷ codes "instructions" ∷ decimal instructions
+    line (codes "node" ∷ decimal i ∷ stand ∷ codes "place" ∷ decimal place ∷ codes "clock" ∷ decimal clock ∷ codes
+    "instructions" ∷ decimal instructions
     ∷ codes "handlers" ∷ decimal handled ∷ codes "sent" ∷ decimal sent ∷ [])
 
 abbrev pub local_line : ℕ → Local → List ℕ
@@ -55,7 +57,8 @@ depth_told here = min (depth here.state) 255
 
 abbrev pub here_line : Protocol → ℕ → ℕ → Here → ℕ → List ℕ
 here_line p i b here waiting =
-    line (codes "block" ∷ decimal i ∷ decimal b ∷ codes "state" ∷ state_name p (out-StateVal here.state).state ∷ codes "tag" ∷ tag_text here.tag
+    line (codes "block" ∷ decimal i ∷ decimal b ∷ codes "state" ∷ state_name p
+    (out-StateVal here.state).state ∷ codes "tag" ∷ tag_text here.tag
     ∷ codes "depth" ∷ decimal (depth_told here) ∷ codes "deferred" ∷ decimal waiting ∷ [])
 
 abbrev pub block_line : Protocol → World → ℕ → ℕ → List ℕ
@@ -87,7 +90,8 @@ wires_from nodes g f = flat_map (wires_between g f) (range_with_len 0 nodes)
 abbrev pub head : ℕ → ℕ → List ℕ
 head k events = line (codes "replay" ∷ decimal k ∷ codes "of" ∷ decimal events ∷ [])
 
--- The state behind k of so many events: the nodes, the blocks of each node, and the wires that hold a message, by sender, receiver and channel.
+-- The state behind k of so many events: the nodes, the blocks of each node, and the wires that hold a message, by sender,
+-- receiver and channel.
 unfoldable pub replay_text : Setup → World → ℕ → ℕ → List ℕ
 replay_text s g k events =
     head k events ++ flat_map (node_line g) (range_with_len 0 s.shape.nodes)

@@ -68,7 +68,8 @@ fn add_block(
 
 fn add_blocks_at(out: &mut Text, names: &Names, g: &Global, node: NodeId) -> Result<(), Memory>
     requires { node < (setup_of g.now).shape.nodes }
-    ensures { OnOk result (out.new ≡ out.old ++ block_lines names.now.protocol.now (setup_of g.now).shape.blocks (world_of g.now) node) }
+    ensures { OnOk result (out.new ≡ out.old ++ block_lines names.now.protocol.now (setup_of g.now).shape.blocks
+        (world_of g.now) node) }
 {
     for number in 0..g.setup().shape().blocks() {
         let block = BlockId::new(number).unwrap();
@@ -79,7 +80,9 @@ fn add_blocks_at(out: &mut Text, names: &Names, g: &Global, node: NodeId) -> Res
 
 /// A line for each node and block.
 pub fn add_blocks(out: &mut Text, names: &Names, g: &Global) -> Result<(), Memory>
-    ensures { OnOk result (out.new ≡ out.old ++ flat_map (block_lines names.now.protocol.now (setup_of g.now).shape.blocks (world_of g.now)) (range_with_len 0 (setup_of g.now).shape.nodes)) }
+    ensures { OnOk result
+        (out.new ≡ out.old ++ flat_map (block_lines names.now.protocol.now (setup_of g.now).shape.blocks (world_of g.now))
+        (range_with_len 0 (setup_of g.now).shape.nodes)) }
 {
     for number in 0..g.setup().shape().nodes() {
         let node = NodeId::new(number).unwrap();

@@ -36,7 +36,8 @@ fn make_event(
     requires test { is_enabled (setup_of g.old) (world_of g.old) event.now ≡ true }
     requires enabled { IsEnabled (setup_of g.old) (world_of g.old) event.now }
     ensures setup { setup_of g.new ≡ setup_of g.old }
-    ensures value { Answers is_memory (λ _. world_of g.new) result (Leads (setup_of g.old) (world_of g.old) number (line.now ∷ [])) }
+    ensures value { Answers is_memory (λ _. world_of g.new) result
+        (Leads (setup_of g.old) (world_of g.old) number (line.now ∷ [])) }
 {
     let entry = step(alloc, g, *event)?;
     let _parts = (entry.act, entry.after);
@@ -59,7 +60,8 @@ fn make_named(
     requires names { names.now.protocol.now ≡ (setup_of g.old).protocol }
     requires event { event_in line.now.tokens ≡ Some event.now }
     ensures setup { setup_of g.new ≡ setup_of g.old }
-    ensures value { Answers is_memory (λ _. world_of g.new) result (Leads (setup_of g.old) (world_of g.old) number (line.now ∷ [])) }
+    ensures value { Answers is_memory (λ _. world_of g.new) result
+        (Leads (setup_of g.old) (world_of g.old) number (line.now ∷ [])) }
 {
     if enabled(g, *event) {
         make_event(alloc, names, g, number, line, event)
@@ -78,7 +80,8 @@ fn make_line(
 ) -> Result<(), AuditError>
     requires { names.now.protocol.now ≡ (setup_of g.old).protocol }
     ensures setup { setup_of g.new ≡ setup_of g.old }
-    ensures value { Answers is_memory (λ _. world_of g.new) result (Leads (setup_of g.old) (world_of g.old) number (line.now ∷ [])) }
+    ensures value { Answers is_memory (λ _. world_of g.new) result
+        (Leads (setup_of g.old) (world_of g.old) number (line.now ∷ [])) }
 {
     match event_in(line.tokens.items()) {
         Some(event) => make_named(alloc, names, g, number, line, &event),

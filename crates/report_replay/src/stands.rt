@@ -29,7 +29,8 @@ fn stand_text(failed: Option<End>, mode: Mode) -> &'static str
 }
 
 fn add_local(out: &mut Text, node: u8, l: &Local) -> Result<(), Memory>
-    ensures { OnOk result (out.new ≡ out.old ++ stand_line node (stand_text l.now.failed l.now.mode) l.now.cpu.place l.now.clock l.now.instructions l.now.handled l.now.sent) }
+    ensures { OnOk result (out.new ≡ out.old ++ stand_line node
+        (stand_text l.now.failed l.now.mode) l.now.cpu.place l.now.clock l.now.instructions l.now.handled l.now.sent) }
 {
     let (stand, place, clock) = (stand_text(l.failed, l.mode), l.cpu.place, l.clock);
     let (instructions, handled, sent) = (l.instructions, l.handled, l.sent);
@@ -48,7 +49,8 @@ fn add_node(out: &mut Text, g: &Global, node: NodeId) -> Result<(), Memory>
 
 /// A line for each node.
 pub fn add_nodes(out: &mut Text, g: &Global) -> Result<(), Memory>
-    ensures { OnOk result (out.new ≡ out.old ++ flat_map (node_line (world_of g.now)) (range_with_len 0 (setup_of g.now).shape.nodes)) }
+    ensures { OnOk result (out.new ≡ out.old ++ flat_map (node_line (world_of g.now))
+        (range_with_len 0 (setup_of g.now).shape.nodes)) }
 {
     for number in 0..g.setup().shape().nodes() {
         let node = NodeId::new(number).unwrap();

@@ -46,7 +46,8 @@ fn add_wires_from(out: &mut Text, g: &Global, from: NodeId) -> Result<(), Memory
 
 /// A line for each wire that holds a message, by sender, receiver and channel.
 pub fn add_wires(out: &mut Text, g: &Global) -> Result<(), Memory>
-    ensures { OnOk result (out.new ≡ out.old ++ flat_map (wires_from (setup_of g.now).shape.nodes (world_of g.now)) (range_with_len 0 (setup_of g.now).shape.nodes)) }
+    ensures { OnOk result (out.new ≡ out.old ++ flat_map (wires_from (setup_of g.now).shape.nodes (world_of g.now))
+        (range_with_len 0 (setup_of g.now).shape.nodes)) }
 {
     for number in 0..g.setup().shape().nodes() {
         let from = NodeId::new(number).unwrap();

@@ -1,5 +1,6 @@
 -- The flat machine of such a run has numbers of 64 bits, too, and so does the break of the run's history.
-use Rattle.std.proofs.Common.{◌≡◌, ℕ, zero, suc, ◌+◌, ◌^◌, ◌≤◌, ◌==◌, cond, Bool, true, false, List, [], ◌∷◌, Option, Some, None, length, refl, arith}
+use Rattle.std.proofs.Common.{◌≡◌, ℕ, zero, suc, ◌+◌, ◌^◌, ◌≤◌, ◌==◌, cond, Bool, true, false, List, [], ◌∷◌, Option, Some}
+use Rattle.std.proofs.Common.{None, length, refl, arith}
 use Rattle.std.specs.Prelude.{replicate, slice_get, slice_index, slice_set}
 use Rattle.tw_base.specs.Answers.{◌>>?◌}
 use Rattle.tw_base.specs.Lists.{Each}

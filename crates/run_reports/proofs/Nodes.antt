@@ -1,5 +1,6 @@
 -- What each node and each wire has in a run of numbers of 64 bits.
-use Rattle.std.proofs.Common.{◌≡◌, ◌∙◌, ℕ, zero, suc, ◌+◌, ◌*◌, ◌^◌, ◌<◌, ◌≤◌, cond, Bool, true, false, List, [], ◌∷◌, ◌++◌, Option, Some, None, length, map, refl, sym, ap, subst, inl, inr, arith}
+use Rattle.std.proofs.Common.{◌≡◌, ◌∙◌, ℕ, zero, suc, ◌+◌, ◌*◌, ◌^◌, ◌<◌, ◌≤◌, cond, Bool, true, false, List, [], ◌∷◌, ◌++◌}
+use Rattle.std.proofs.Common.{Option, Some, None, length, map, refl, sym, ap, subst, inl, inr, arith}
 use Rattle.std.specs.Prelude.{◌==◌, drop, nat_eq, take}
 use Rattle.std.specs.List.{filter, range_with_len, slice_index_or}
 use Rattle.std.proofs.lemmas.Bool.{cases_eq}
@@ -31,7 +32,8 @@ use Rattle.dsm_runs.specs.Events.{Acts, Completes, Handles, SameBlocks, Stores, 
 use Rattle.dsm_runs.specs.Invariants.{IsDeferredAt, IsNodeOf, IsOnTheWay, IsRunState}
 use Rattle.dsm_runs.specs.Locals.{IsFirst, Local}
 use Rattle.dsm_runs.specs.Messages.{fault, numbered, on_wire, outgoing, posted}
-use Rattle.dsm_runs.specs.Setups.{IsSetup, Setup, asked, block_of, finished, first_here, home_of, offset_of, program_at, size_of, start_line, start_state}
+use Rattle.dsm_runs.specs.Setups.{IsSetup, Setup, asked, block_of, finished, first_here, home_of, offset_of, program_at}
+use Rattle.dsm_runs.specs.Setups.{size_of, start_line, start_state}
 use Rattle.dsm_runs.specs.Worlds.{Runs, Step, World, start, taken, takes_from}
 use Rattle.dsm_runs.proofs.Asking.{asked_well}
 use Rattle.dsm_runs.proofs.Lists.{Each-append, Each-filter, chan_eq_refl, nat_eq_refl}

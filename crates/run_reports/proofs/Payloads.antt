@@ -1,5 +1,6 @@
 -- A handler passes on data of numbers of 64 bits.
-use Rattle.std.proofs.Common.{◌≡◌, ℕ, zero, suc, cond, Bool, true, false, List, [], ◌∷◌, map, Option, Some, None, refl, sym, subst}
+use Rattle.std.proofs.Common.{◌≡◌, ℕ, zero, suc, cond, Bool, true, false, List, [], ◌∷◌, map, Option, Some, None, refl, sym}
+use Rattle.std.proofs.Common.{subst}
 use Rattle.std.specs.Prelude.{nat_le, slice_get, unwrap_or}
 use Rattle.tw_base.specs.Lists.{Each}
 use Rattle.tw_base.specs.declared.entry.End.{End}
@@ -19,7 +20,9 @@ use Rattle.teapot_meaning.specs.Does.{Does}
 use Rattle.teapot_meaning.specs.Goes.{Goes, ends, goes_on}
 use Rattle.teapot_meaning.specs.Layers.{Layer, what_of}
 use Rattle.teapot_meaning.specs.Names.{declared, info_number}
-use Rattle.teapot_meaning.specs.Steps.{assigned, assigned_at, ended, least_of, led_to, moved, next_of, out_of, out_to, payload_of, place_of, resumes, sent, sent_all, set_of, suspended, suspends, tagged, turned, turns, values_of}
+use Rattle.teapot_meaning.specs.Steps.{assigned, assigned_at, ended, least_of, led_to, moved, next_of, out_of, out_to}
+use Rattle.teapot_meaning.specs.Steps.{payload_of, place_of, resumes, sent, sent_all, set_of, suspended, suspends, tagged}
+use Rattle.teapot_meaning.specs.Steps.{turned, turns, values_of}
 use Rattle.teapot_meaning.specs.Values.{value_of}
 use Rattle.teapot_meaning.specs.declared.state.Cont.{Cont, out-Cont, roll-Cont, out-roll-Cont}
 use Rattle.teapot_meaning.specs.declared.state.Ended.{Ended}

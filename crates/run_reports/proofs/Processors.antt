@@ -1,5 +1,6 @@
 -- A processor whose numbers have 64 bits keeps them so.
-use Rattle.std.proofs.Common.{◌≡◌, ℕ, zero, suc, ◌+◌, ◌-◌, ◌^◌, ◌<◌, ◌≤◌, ◌==◌, cond, Bool, true, false, List, [], ◌∷◌, length, Option, Some, None, refl, subst, arith, mod-lt}
+use Rattle.std.proofs.Common.{◌≡◌, ℕ, zero, suc, ◌+◌, ◌-◌, ◌^◌, ◌<◌, ◌≤◌, ◌==◌, cond, Bool, true, false, List, [], ◌∷◌, length}
+use Rattle.std.proofs.Common.{Option, Some, None, refl, subst, arith, mod-lt}
 use Rattle.std.specs.Prelude.{nat_lt, slice_get, slice_index, slice_set}
 use Rattle.std.specs.Int.Bits.{and_lt}
 use Rattle.std.proofs.lemmas.Nat.{or_lt, xor_lt}
@@ -10,8 +11,10 @@ use Rattle.mini_asm.specs.declared.cpu.Cpu.{Cpu}
 use Rattle.mini_asm.specs.declared.cpu.Next.{Next}
 use Rattle.mini_asm.specs.declared.cpu.Next.TheVariants as next
 use Rattle.mini_asm.specs.declared.instr.Instr.{Instr}
-use Rattle.mini_asm.specs.declared.instr.Instr.TheVariants.{Li, Mov, Add, Sub, And, Or, Xor, Ld, St, Beq, Bne, Blt, Jmp, Print, Halt, Faa}
-use Rattle.mini_asm.specs.Machine.{access, asks, completed, fetch_and_add, finish_of, next_of, place_after, set_reg, with_written, wrap, written}
+use Rattle.mini_asm.specs.declared.instr.Instr.TheVariants.{Li, Mov, Add, Sub, And, Or, Xor, Ld, St, Beq, Bne, Blt, Jmp, Print}
+use Rattle.mini_asm.specs.declared.instr.Instr.TheVariants.{Halt, Faa}
+use Rattle.mini_asm.specs.Machine.{access, asks, completed, fetch_and_add, finish_of, next_of, place_after, set_reg}
+use Rattle.mini_asm.specs.Machine.{with_written, wrap, written}
 use Rattle.mini_asm.specs.Programs.{GoesWithin}
 use Rattle.printed_reports.specs.Named.{Small}
 use Rattle.run_reports.specs.Numbers.{HasSmallNumber, IsSmallProgram}

@@ -3,7 +3,8 @@ use Rattle.std.specs.Prelude.{◌≡◌, ◌≤◌, ℕ, true, length, List}
 use Rattle.tw_base.specs.Lists.{Each}
 use Rattle.tw_base.specs.declared.entry.Entry.{Entry}
 use Rattle.mini_asm.specs.declared.instr.Instr.{Instr}
-use Rattle.mini_asm.specs.declared.instr.Instr.TheVariants.{Li, Mov, Add, Sub, And, Or, Xor, Ld, St, Beq, Bne, Blt, Jmp, Print, Halt, Faa}
+use Rattle.mini_asm.specs.declared.instr.Instr.TheVariants.{Li, Mov, Add, Sub, And, Or, Xor, Ld, St, Beq, Bne, Blt, Jmp, Print}
+use Rattle.mini_asm.specs.declared.instr.Instr.TheVariants.{Halt, Faa}
 use Rattle.mini_asm.specs.Programs.{GoesWithin}
 use Rattle.dsm_runs.specs.Setups.{IsSetup, Setup}
 use Rattle.dsm_runs.specs.Worlds.{Runs, World, start}

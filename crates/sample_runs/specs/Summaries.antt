@@ -35,7 +35,8 @@ summary_head k = line (codes "tempest sample" ∷ decimal k ∷ codes "rounds" �
 -- how a node ended, and what it printed first
 abbrev pub summary_node : Protocol → List Entry → ℕ × Final → List ℕ
 summary_node p j ended =
-    line (codes "node" ∷ decimal ended.0 ∷ outcome_words p ended.1.outcome ++ codes "print" ∷ decimal (first_print ended.0 j) ∷ [])
+    line (codes "node" ∷ decimal ended.0 ∷ outcome_words p ended.1.outcome
+    ++ codes "print" ∷ decimal (first_print ended.0 j) ∷ [])
 
 -- the sum of all words, as numbers of 64 bits
 abbrev pub sum_of : List ℕ → ℕ
@@ -48,7 +49,8 @@ sum_line words = line (codes "sum" ∷ decimal (sum_of words) ∷ [])
 -- end, and the history.
 unfoldable pub summary_under : Protocol → ℕ → List Entry → List Final → List ℕ → Option Break → List ℕ
 summary_under p k j finals words broken =
-    summary_head k ++ flat_map (summary_node p j) (enumerate_from 0 finals) ++ sum_line words ++ history_line broken ++ codes "end\n"
+    summary_head k ++ flat_map (summary_node p j) (enumerate_from 0 finals) ++ sum_line words ++ history_line broken
+    ++ codes "end\n"
 
 -- the summary of a run of sample k
 abbrev pub summary_text : ℕ → List Entry → List Final → List ℕ → Option Break → List ℕ

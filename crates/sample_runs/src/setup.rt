@@ -1,6 +1,7 @@
 ghost use Rattle.std.specs.Prelude.{◌≡◌, ◌<◌, IfOk};
 ghost use Rattle.stache_tree.specs.Tree.{IsStache};
-ghost use Rattle.sample_runs.specs.Samples.{increment_of, rounds_of, sample_program, sample_setup, sample_shape, shipped_protocol};
+ghost use Rattle.sample_runs.specs.Samples.{increment_of, rounds_of, sample_program, sample_setup, sample_shape};
+ghost use Rattle.sample_runs.specs.Samples.{shipped_protocol};
 
 use dsm_runs::Setup;
 use mini_asm::{Instr, Program};

@@ -1,6 +1,7 @@
 ghost use Rattle.std.specs.Prelude.{◌≡◌, ◌++◌, IfOk, OnOk};
 ghost use Rattle.std.specs.List.{flat_map, enumerate_from};
-ghost use Rattle.sample_runs.specs.Summaries.{first_print, printed_by, sum_line, sum_of, summary_head, summary_node, summary_under};
+ghost use Rattle.sample_runs.specs.Summaries.{first_print, printed_by, sum_line, sum_of, summary_head, summary_node};
+ghost use Rattle.sample_runs.specs.Summaries.{summary_under};
 
 use crate::setup::rounds_of;
 use dsm_runs::Setup;
@@ -74,7 +75,8 @@ fn add_nodes(
     journal: &[Entry],
     finals: &[Final],
 ) -> Result<(), Memory>
-    ensures { OnOk result (out.new ≡ out.old ++ flat_map (summary_node names.now.protocol.now journal.now) (enumerate_from 0 finals.now)) }
+    ensures { OnOk result (out.new ≡ out.old ++ flat_map (summary_node names.now.protocol.now journal.now)
+        (enumerate_from 0 finals.now)) }
 {
     for (node, ended) in finals.iter().enumerate() {
         add_node(out, names, journal, node, ended)?;

@@ -11,7 +11,8 @@ use Rattle.tempest_input.specs.declared.head.Head.{Head}
 use Rattle.tempest_input.specs.declared.head.Head.TheVariants as heads
 use Rattle.tempest_input.specs.declared.head.Field.TheVariants.{Version, Nodes, Words, Blocks, Budget}
 use Rattle.tempest_input.specs.declared.head.Shipped.{Shipped}
-use Rattle.tempest_input.specs.Heads.{after_first, after_number, after_word, head_of, number_head, one_head, shipped_as, shipped_head, three_head, two_head, word_head, words_head}
+use Rattle.tempest_input.specs.Heads.{after_first, after_number, after_word, head_of, number_head, one_head, shipped_as}
+use Rattle.tempest_input.specs.Heads.{shipped_head, three_head, two_head, word_head, words_head}
 
 abbrev HeadSmall : Head → Type 0
 HeadSmall (heads.Init address value) = Small value
@@ -24,14 +25,16 @@ cond-small false x y h k = k
 word-small : (w : List ℕ) → HeadSmall (word_head w)
 word-small w =
     cond-small (bytes_eq w (codes "protocol")) heads.Protocol _ tt
-    (cond-small (bytes_eq w (codes "end")) heads.End _ tt (cond-small (bytes_eq w (codes "report")) heads.Report heads.Other tt tt))
+    (cond-small (bytes_eq w (codes "end")) heads.End _ tt (cond-small
+    (bytes_eq w (codes "report")) heads.Report heads.Other tt tt))
 
 shipped-small : (o : Option Shipped) → HeadSmall (shipped_head o)
 shipped-small None = tt
 shipped-small (Some which) = tt
 
 words-small : (w v : List ℕ) → HeadSmall (words_head w v)
-words-small w v = cond-small (bytes_eq w (codes "shipped")) (shipped_head (shipped_as v)) heads.Other (shipped-small (shipped_as v)) tt
+words-small w v = cond-small (bytes_eq w (codes "shipped")) (shipped_head (shipped_as v)) heads.Other
+    (shipped-small (shipped_as v)) tt
 
 number-small : (w : List ℕ) (n : ℕ) → HeadSmall (number_head w n)
 number-small w n =

@@ -1,5 +1,6 @@
 -- What a text sets up has numbers of 64 bits.
-use Rattle.std.proofs.Common.{◌≡◌, ℕ, zero, suc, ◌*◌, ◌==◌, List, [], ◌∷◌, ◌++◌, Option, Some, None, Result, Ok, Err, refl, ap, subst, arith}
+use Rattle.std.proofs.Common.{◌≡◌, ℕ, zero, suc, ◌*◌, ◌==◌, List, [], ◌∷◌, ◌++◌, Option, Some, None, Result, Ok, Err, refl, ap}
+use Rattle.std.proofs.Common.{subst, arith}
 use Rattle.std.specs.Prelude.{not, nat_lt, position, slice_get, unwrap_or}
 use Rattle.tw_base.specs.Lists.{Each}
 use Rattle.tw_lex.specs.declared.token.Line.{Line}
@@ -19,7 +20,8 @@ use Rattle.tempest_input.specs.declared.layout.Init.{Init}
 use Rattle.tempest_input.specs.declared.layout.Section.{Section}
 use Rattle.tempest_input.specs.Laws.{IsInits, IsSections}
 use Rattle.tempest_input.specs.Numbers.{gathered, is_given, nodes_of, sizes_of, unless, word_in, words_of}
-use Rattle.tempest_input.specs.Settings.{Settings, each_below, in_program, parsed, program_at, program_for, program_in, settings_of}
+use Rattle.tempest_input.specs.Settings.{Settings, each_below, in_program, parsed, program_at, program_for, program_in}
+use Rattle.tempest_input.specs.Settings.{settings_of}
 use Rattle.setup_numbers.specs.Settings.{AreSmallSettings, SettingsOfSmallLines}
 use Rattle.setup_numbers.proofs.Heads.{value-small}
 

@@ -37,5 +37,6 @@ read-small texts layouts settings ending text s report e =
     let behind = each_right SmallLine is.budget (is.inits ++ (is.programs ++ (is.protocol ++ is.behind))) parts in
     let programs = each_right SmallLine is.inits (is.programs ++ (is.protocol ++ is.behind)) behind in
     subst AreSmallSettings (first-same t s l.1 report _ refl same)
-    (settings l.0 t is.inits is.programs is.inits_are is.programs_are (each_left SmallLine is.inits (is.programs ++ (is.protocol ++ is.behind)) behind)
+    (settings l.0 t is.inits is.programs is.inits_are is.programs_are
+    (each_left SmallLine is.inits (is.programs ++ (is.protocol ++ is.behind)) behind)
     (each_left SmallLine is.programs (is.protocol ++ is.behind) programs) of))))

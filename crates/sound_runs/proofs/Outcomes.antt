@@ -1,5 +1,6 @@
 -- The outcome of a node that is not blocked, has not failed and can make no instruction event.
-use Rattle.std.proofs.Common.{◌≡◌, ◌≢◌, ℕ, ◌<◌, ◌≤◌, Bool, false, nat_eq, nat_le, ◌||◌, None, arith, refl, sym, ap, subst, ◌∙◌, ◌⊎◌, inl, inr}
+use Rattle.std.proofs.Common.{◌≡◌, ◌≢◌, ℕ, ◌<◌, ◌≤◌, Bool, false, nat_eq, nat_le, ◌||◌, None, arith, refl, sym, ap, subst, ◌∙◌}
+use Rattle.std.proofs.Common.{◌⊎◌, inl, inr}
 use Rattle.std.proofs.lemmas.Bool.Decides.{nat_tests}
 use Rattle.tw_base.specs.Shape.{handler_budget_of}
 use Rattle.tw_base.specs.declared.entry.Trap.{Trap}

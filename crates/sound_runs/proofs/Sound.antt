@@ -16,7 +16,7 @@ use Rattle.coherence_frame.proofs.Spent.{run_tally}
 use Rattle.coherence_inv.proofs.Scheme.{scheme as of_stache}
 use Rattle.stache_d_inv.proofs.Scheme.{scheme as of_stache_d}
 use Rattle.stache_l_inv.proofs.Scheme.{scheme as of_stache_l}
-use Rattle.sound_runs.specs.Shipped.{IsShipped, as_stache, as_stache_d, as_stache_l}
+use Rattle.sound_runs.specs.Shipped.{as_stache, as_stache_d, as_stache_l}
 use Rattle.sound_runs.specs.Sound.{FewMessages, IsSoundToItsEnd, NoneFails, ShippedAreSoundToTheirEnd}
 use Rattle.sound_runs.proofs.Completed.{refused_accesses_are_completed}
 use Rattle.sound_runs.proofs.Fine.{handlers_fine, unfailed}

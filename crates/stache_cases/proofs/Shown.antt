@@ -13,6 +13,7 @@ pub row_at : (k : ℕ) → slice_get ROWS k ≡ option_map shown (slice_get rows
 row_at k = slice_get-map shown rows k
 
 -- a text that grew by the rows and the last line
-pub whole_text : (start grown ended text : List ℕ) → start ≡ [] → grown ≡ start ++ rows_text ROWS → ended ≡ grown ++ codes "end\n" → text ≡ ended → text ≡ table_text
+pub whole_text : (start grown ended text : List ℕ) → start ≡ [] → grown ≡ start ++ rows_text ROWS →
+    ended ≡ grown ++ codes "end\n" → text ≡ ended → text ≡ table_text
 whole_text start grown ended text none by_rows by_end is =
     is ∙ by_end ∙ ap (λ l. l ++ codes "end\n") (by_rows ∙ ap (λ l. l ++ rows_text ROWS) none)

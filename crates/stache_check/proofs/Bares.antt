@@ -1,5 +1,6 @@
 -- Two lists seen as one, place by place; a choice with every line 0.
-use Rattle.std.proofs.Common.{refl, ◌≡◌, ℕ, zero, suc, ◌<◌, ◌≤◌, List, [], ◌∷◌, map, length, Option, Some, None, ap, sym, ◌∙◌, arith, get_or}
+use Rattle.std.proofs.Common.{refl, ◌≡◌, ℕ, zero, suc, ◌<◌, ◌≤◌, List, [], ◌∷◌, map, length, Option, Some, None, ap, sym, ◌∙◌}
+use Rattle.std.proofs.Common.{arith, get_or}
 use Rattle.std.specs.Prelude.{◌↔◌}
 use Rattle.std.specs.Option.{option_map}
 use Rattle.teapot_tree.specs.declared.expr.Expr.{Expr}
@@ -10,7 +11,8 @@ use Rattle.teapot_tree.specs.declared.stmt.Do.TheVariants as v
 use Rattle.teapot_tree.specs.Bare.{bare, bare_all, bare_do}
 use Rattle.stache_tree.specs.Code.{said}
 
-pub both_at : {X Y Z : Type 0} (f : X → Z) (g : Y → Z) (a : List X) (b : List Y) (i : ℕ) (c : X) (d : Y) → i < length a → i < length b → map f a ≡ map g b → f (get_or a i c) ≡ g (get_or b i d)
+pub both_at : {X Y Z : Type 0} (f : X → Z) (g : Y → Z) (a : List X) (b : List Y) (i : ℕ) (c : X) (d : Y) → i < length a →
+    i < length b → map f a ≡ map g b → f (get_or a i c) ≡ g (get_or b i d)
 both_at f g [] b i c d lt lt' e = absurd (omega arith)
 both_at f g (x ∷ a) [] i c d lt lt' e = absurd (omega arith)
 both_at f g (x ∷ a) (y ∷ b) zero c d lt lt' e = cc
@@ -20,9 +22,11 @@ bare_do-roll : (l : Do-F Do Stmt) → bare_do (roll-Do l) ≡ roll-Do (map-Do Do
 unfolding bare bare_do
 bare_do-roll l = fold-roll-Do Do Stmt roll-Do (λ s. record { what = s.what; line = 0 }) l
 
-bare-If : (e : Expr) (xs : List Stmt) (o : Option (List Stmt)) → bare_do (v.If e xs o) ≡ v.If e (bare_all xs) (option_map bare_all o)
+bare-If : (e : Expr) (xs : List Stmt) (o : Option (List Stmt)) →
+    bare_do (v.If e xs o) ≡ v.If e (bare_all xs) (option_map bare_all o)
 bare-If e xs None = ap bare_do (sym (v.rolls-If e xs None)) ∙ bare_do-roll (Do-F.If e xs None) ∙ v.rolls-If e (bare_all xs) None
-bare-If e xs (Some ys) = ap bare_do (sym (v.rolls-If e xs (Some ys))) ∙ bare_do-roll (Do-F.If e xs (Some ys)) ∙ v.rolls-If e (bare_all xs) (Some (bare_all ys))
+bare-If e xs (Some ys) = ap bare_do (sym (v.rolls-If e xs (Some ys))) ∙ bare_do-roll (Do-F.If e xs (Some ys))
+    ∙ v.rolls-If e (bare_all xs) (Some (bare_all ys))
 
 bare-what : (s : Stmt) → bare s ≡ record { what = bare_do s.what; line = 0 }
 unfolding bare bare_do
@@ -32,12 +36,18 @@ bare-what s = fold_out-Stmt Do Stmt roll-Do (λ s. record { what = s.what; line 
 pub told-If : (s : Stmt) (e f : Expr) (xs ys : List Stmt) (o : Option (List Stmt)) → s.what ≡ v.If e xs o →
     (bare s ≡ said (Do-F.If f ys None)) ↔ ((e ≡ f) × (bare_all xs ≡ ys) × (o ≡ None))
 told-If s e f xs ys o i =
-    let k : bare s ≡ record { what = v.If e (bare_all xs) (option_map bare_all o); line = 0 } = bare-what s ∙ ap (λ z. record { what = z; line = 0 }) (ap bare_do i ∙ bare-If e xs o) in (
+    let k : bare s ≡ record { what = v.If e (bare_all xs) (option_map bare_all o); line = 0 } = bare-what s
+    ∙ ap (λ z. record { what = z; line = 0 }) (ap bare_do i ∙ bare-If e xs o) in (
       λ h.
-          let w : v.If e (bare_all xs) (option_map bare_all o) ≡ roll-Do (Do-F.If f ys None) = ap (λ (z : Stmt). z.what) (sym k ∙ h) in
-          let q : Do-F.If e (bare_all xs) (option_map bare_all o) ≡ Do-F.If f ys None = sym (v.outs-If e (bare_all xs) (option_map bare_all o)) ∙ ap out-Do (w ∙ v.rolls-If f ys None) ∙ v.outs-If f ys None in
+          let w : v.If e (bare_all xs) (option_map bare_all o) ≡ roll-Do (Do-F.If f ys None) =
+          ap (λ (z : Stmt). z.what) (sym k ∙ h) in
+          let q : Do-F.If e (bare_all xs) (option_map bare_all o) ≡ Do-F.If f ys None =
+          sym (v.outs-If e (bare_all xs) (option_map bare_all o)) ∙ ap out-Do (w ∙ v.rolls-If f ys None)
+          ∙ v.outs-If f ys None in
           (cc, cc, none_back o (cc)),
-      λ h. k ∙ ap (λ z. record { what = z; line = 0 }) (ap (λ z. v.If z (bare_all xs) (option_map bare_all o)) h.0 ∙ ap (λ z. v.If f z (option_map bare_all o)) h.1 ∙ ap (λ z. v.If f ys (option_map bare_all z)) h.2 ∙ sym (v.rolls-If f ys None)),
+      λ h. k ∙ ap (λ z. record { what = z; line = 0 }) (ap (λ z. v.If z (bare_all xs) (option_map bare_all o)) h.0
+          ∙ ap (λ z. v.If f z (option_map bare_all o)) h.1 ∙ ap (λ z. v.If f ys (option_map bare_all z)) h.2
+          ∙ sym (v.rolls-If f ys None)),
     )
   where
     none_back : (o : Option (List Stmt)) → option_map bare_all o ≡ None → o ≡ None

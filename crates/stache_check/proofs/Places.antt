@@ -2,7 +2,8 @@
 use Rattle.std.proofs.Common.{◌≡◌, ◌≢◌, refl}
 use Rattle.stache_check.specs.Words.{state_by, state_by_d}
 use Rattle.stache_check.specs.declared.protocol.Place.{Place}
-use Rattle.stache_check.specs.declared.protocol.Place.TheVariants.{HomeRw, HomeRo, HomeExcl, HomeAcks, HomePut, CacheInv, CacheRo, CacheRw, CacheWaitRo, CacheWaitRw}
+use Rattle.stache_check.specs.declared.protocol.Place.TheVariants.{HomeRw, HomeRo, HomeExcl, HomeAcks, HomePut, CacheInv}
+use Rattle.stache_check.specs.declared.protocol.Place.TheVariants.{CacheRo, CacheRw, CacheWaitRo, CacheWaitRw}
 
 pub same_elsewhere : (p : Place) → p ≢ HomeExcl → p ≢ HomePut → p ≢ CacheRw → state_by_d p ≡ state_by p
 same_elsewhere HomeRw e f g = refl

@@ -17,7 +17,8 @@ use Rattle.stache_check.specs.declared.line.Plain.{Plain}
 use Rattle.stache_check.specs.declared.line.Plain.TheVariants as p
 use Rattle.stache_check.specs.declared.line.Branch.{Branch}
 use Rattle.stache_check.specs.declared.line.Branch.TheVariants as b
-use Rattle.stache_tree.specs.Tree.{message, home_rw, home_ro, home_excl, home_acks, home_put, cache_inv, cache_ro, cache_rw, cache_wait_ro, cache_wait_rw}
+use Rattle.stache_tree.specs.Tree.{message, home_rw, home_ro, home_excl, home_acks, home_put, cache_inv, cache_ro, cache_rw}
+use Rattle.stache_tree.specs.Tree.{cache_wait_ro, cache_wait_rw}
 use Rattle.stache_d_tree.specs.Tree.{cache_rw_d, home_excl_d, home_put_d}
 use Rattle.stache_check.specs.declared.directory.Directory.{Directory}
 use Rattle.stache_check.specs.declared.directory.Directory.TheVariants as d

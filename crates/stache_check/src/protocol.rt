@@ -1,7 +1,8 @@
 ghost use Rattle.std.specs.Prelude.{◌≡◌, ◌↔◌, IsTrue, Some, None, [], ◌∷◌, map, if◌then◌else◌};
 ghost use Rattle.teapot_tree.specs.Bare.{bare_message, bare_param, bare_start, bare_state};
 ghost use Rattle.stache_d_tree.specs.Tree.{IsStacheD, stache_d, states_d};
-ghost use Rattle.stache_tree.specs.Tree.{IsStache, info, message, starts_in, stache, states, home_rw, home_ro, home_excl, home_acks, home_put, cache_inv, cache_ro, cache_rw, cache_wait_ro, cache_wait_rw};
+ghost use Rattle.stache_tree.specs.Tree.{IsStache, info, message, starts_in, stache, states, home_rw, home_ro, home_excl};
+ghost use Rattle.stache_tree.specs.Tree.{home_acks, home_put, cache_inv, cache_ro, cache_rw, cache_wait_ro, cache_wait_rw};
 ghost use Rattle.stache_check.specs.Words.{cont_of, message_of, state_by, state_by_d, state_under, word_of};
 
 use crate::states::{

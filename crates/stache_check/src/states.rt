@@ -1,6 +1,7 @@
 ghost use Rattle.std.specs.Prelude.{◌≡◌, ◌↔◌, IsTrue, map};
 ghost use Rattle.teapot_tree.specs.Bare.{bare_handler};
-ghost use Rattle.stache_tree.specs.Tree.{home_rw, home_ro, home_excl, home_acks, home_put, cache_inv, cache_ro, cache_rw, cache_wait_ro, cache_wait_rw};
+ghost use Rattle.stache_tree.specs.Tree.{home_rw, home_ro, home_excl, home_acks, home_put, cache_inv, cache_ro, cache_rw};
+ghost use Rattle.stache_tree.specs.Tree.{cache_wait_ro, cache_wait_rw};
 
 use crate::{Atom, Branch, Line, On, Plain, Term, Word, is_handler};
 use teapot_tree::{Handler, Op};

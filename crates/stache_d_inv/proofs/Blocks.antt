@@ -1,15 +1,25 @@
 -- What a row does to the whole of a block.
-use Rattle.std.proofs.Common.{◌≡◌, ◌≢◌, ℕ, ◌+◌, ◌-◌, ◌<◌, ◌≤◌, Bool, true, false, List, [], ◌∷◌, ◌++◌, arith, refl, sym, ap, ◌∙◌, inl, inr, ◌⊎◌}
+use Rattle.std.proofs.Common.{◌≡◌, ◌≢◌, ℕ, ◌+◌, ◌-◌, ◌<◌, ◌≤◌, Bool, true, false, List, [], ◌∷◌, ◌++◌, arith, refl, sym, ap}
+use Rattle.std.proofs.Common.{◌∙◌, inl, inr, ◌⊎◌}
 use Rattle.std.proofs.lemmas.Bool.{cases_eq}
 use Rattle.std.proofs.lemmas.List.{append-nil}
 use Rattle.std.proofs.lemmas.Bool.Decides.{nat_tests}
-use Rattle.block_spots.specs.Cases.{State, HomeRw, HomeRo, HomeExcl, HomeAcks, HomePut, NoRest, OfHome, OfLoad, OfRo, OfRw, Here, nobody, with_node, without_node, members}
-use Rattle.block_spots.specs.Notes.{Note, NInv, NAck, NRecall, NRecallRo, NDataRo, NDataRw, NPut, NPutRo, Spot, is_rd_fault, is_wr_fault, held_home, owes}
+use Rattle.block_spots.specs.Cases.{State, HomeRw, HomeRo, HomeExcl, HomeAcks, HomePut, NoRest, OfHome, OfLoad, OfRo, OfRw}
+use Rattle.block_spots.specs.Cases.{Here, nobody, with_node, without_node, members}
+use Rattle.block_spots.specs.Notes.{Note, NInv, NAck, NRecall, NRecallRo, NDataRo, NDataRw, NPut, NPutRo, Spot, is_rd_fault}
+use Rattle.block_spots.specs.Notes.{is_wr_fault, held_home, owes}
 use Rattle.stache_d_inv.specs.Coherent.{AtCache, AtBlock, Infos, IsCacheNode, IsFault, current_in, owner_words}
 use Rattle.tw_base.specs.Lists.{one_if, sum_below, how_many, Each}
 use Rattle.tw_base.specs.declared.value.Tag.TheVariants.{Invalid, ReadOnly, ReadWrite}
 use Rattle.block_spots.proofs.Sums.{sum_below_same, sum_below_one, sum_below_two, members_has, members_none}
-use Rattle.stache_d_inv.proofs.Homes.{IsOfRo, IsOfRw, given_ro, given_ro_more, beside_given_ro, beside_given_ro_more, given_rw, beside_given_rw, held_back, sent_inv, sent_none, sent_inv_home, sent_none_home, given_rw_alone, beside_given_rw_alone, recalled_home, recalled_load, recalled_ro, recalled_rw, held_for_ro, held_for_rw, beside_recall, took_ack, beside_ack, all_home, gives_asker, beside_gives_asker, put_is_owners, took_put_home, beside_put_home, put_ro_is_owners, shares_load, beside_load, shares_ro, asker_ro, beside_ro, took_put_rw, asker_put_rw, beside_put_rw, moved, home_stores, given_words, recall_words, recall_ro_words, asker_words, put_words, put_ro_words, owner_words_same}
+use Rattle.stache_d_inv.proofs.Homes.{IsOfRo, IsOfRw, given_ro, given_ro_more, beside_given_ro, beside_given_ro_more, given_rw}
+use Rattle.stache_d_inv.proofs.Homes.{beside_given_rw, held_back, sent_inv, sent_none, sent_inv_home, sent_none_home}
+use Rattle.stache_d_inv.proofs.Homes.{given_rw_alone, beside_given_rw_alone, recalled_home, recalled_load, recalled_ro}
+use Rattle.stache_d_inv.proofs.Homes.{recalled_rw, held_for_ro, held_for_rw, beside_recall, took_ack, beside_ack, all_home}
+use Rattle.stache_d_inv.proofs.Homes.{gives_asker, beside_gives_asker, put_is_owners, took_put_home, beside_put_home}
+use Rattle.stache_d_inv.proofs.Homes.{put_ro_is_owners, shares_load, beside_load, shares_ro, asker_ro, beside_ro, took_put_rw}
+use Rattle.stache_d_inv.proofs.Homes.{asker_put_rw, beside_put_rw, moved, home_stores, given_words, recall_words}
+use Rattle.stache_d_inv.proofs.Homes.{recall_ro_words, asker_words, put_words, put_ro_words, owner_words_same}
 use Rattle.coherence_frame.proofs.Counts.{no_faults}
 use Rattle.coherence_frame.proofs.Turning.{Asked, OwnSame, current_same}
 
@@ -18,12 +28,14 @@ module _ (n h : ℕ) (cur : List ℕ) (home home2 : Here) (spots spots2 : ℕ �
   home_words : home.owner ≡ h → current_in home.state home.words (spots2 home.owner) ≡ cur
   home_words o = go home.state refl a.at_home.infos a.tie
     where
-      go : (x : State) → home.state ≡ x → Infos n h home.state home → current_in home.state home.words (spots home.owner) ≡ cur → current_in home.state home.words (spots2 home.owner) ≡ cur
+      go : (x : State) → home.state ≡ x → Infos n h home.state home →
+          current_in home.state home.words (spots home.owner) ≡ cur → current_in home.state home.words (spots2 home.owner) ≡ cur
       go HomeExcl p f t = absurd (grind arith)
       go HomePut p f t = absurd (grind arith)
       go x p f t = grind arith
 
-  module _ (i : ℕ) (l : i < n) (d : i ≢ h) (own : OwnSame (spots h) (spots2 h)) (o : (j : ℕ) → j ≢ h → j ≢ i → spots2 j ≡ spots j) where
+  module _ (i : ℕ) (l : i < n) (d : i ≢ h) (own : OwnSame (spots h) (spots2 h))
+      (o : (j : ℕ) → j ≢ h → j ≢ i → spots2 j ≡ spots j) where
     -- row 0
     pub row_0 : home.state ≡ HomeRw → home2 ≡ record home { state = HomeRo; sharers = with_node nobody i; tag = ReadOnly } →
         Asked (spots i) (spots2 i) 1 0 (NDataRo home.words ∷ []) → AtBlock n h cur home2 spots2
@@ -68,28 +80,37 @@ module _ (n h : ℕ) (cur : List ℕ) (home home2 : Here) (spots spots2 : ℕ �
           ];
           at_home = grind (arith, nat_tests);
           acks = grind arith;
-          tie = (let words : home.words ≡ cur = let f : current_in home.state home.words (spots home.owner) ≡ cur = a.tie in grind arith in rw q (given_words n h home home i (spots i) (spots2 i) (a.caches i l d) home.words 0 1 (inl p) r t.loses (omega arith) t.down t.up ∙ words));
+          tie = (let words : home.words ≡ cur = let f : current_in home.state home.words (spots home.owner)
+              ≡ cur = a.tie in grind arith in rw q (given_words n h home home i (spots i) (spots2 i)
+              (a.caches i l d) home.words 0 1 (inl p) r t.loses (omega arith) t.down t.up ∙ words));
         }
 
     -- row 6: the asker is the only sharer, or there is none but it
-    pub row_6 : (z : ℕ → Bool) → ((k : ℕ) → z k ≡ false) → home.state ≡ HomeRo → members n (without_node home.sharers i) < 1 → home2 ≡ record home { state = HomeExcl; rest = NoRest; owner = i; sharers = z; acks = 0; tag = Invalid } →
+    pub row_6 : (z : ℕ → Bool) → ((k : ℕ) → z k ≡ false) → home.state ≡ HomeRo → members n (without_node home.sharers i) < 1 →
+        home2 ≡ record home { state = HomeExcl; rest = NoRest; owner = i; sharers = z; acks = 0; tag = Invalid } →
         Asked (spots i) (spots2 i) 0 1 (NDataRw home.words ∷ []) → AtBlock n h cur home2 spots2
     row_6 z zn p m q t =
         let r : home.rest ≡ NoRest = grind arith in
-        let none : (j : ℕ) → j < n → j ≢ i → home.sharers j ≡ false = λ j lj e. let x = members_none n (without_node home.sharers i) j lj m in grind (arith, nat_tests) in
+        let none : (j : ℕ) → j < n → j ≢ i → home.sharers j ≡ false = λ j lj e. let x =
+        members_none n (without_node home.sharers i) j lj m in grind (arith, nat_tests) in
         record {
           caches = λ j lj dj. elim (cases_eq j i) [
             | inl e ↦ rw e (given_rw_alone n h home home2 i (spots i) (spots2 i) (a.caches i l d) z p r q t.loses t.down t.up)
-            | inr e ↦ beside_given_rw_alone n h home home2 j (spots j) (spots2 j) (a.caches j lj dj) i z e (none j lj e) p r q (o j dj e)
+            | inr e ↦ beside_given_rw_alone n h home home2 j (spots j) (spots2 j) (a.caches j lj dj) i z e (none j lj e) p r q
+                (o j dj e)
           ];
-          at_home = (let f : (k : ℕ) → home2.sharers k ≡ false = λ k. ap (λ x. x.sharers k) q ∙ zn k in let ow : home2.owner ≡ i = ap (λ x. x.owner) q in grind (arith, nat_tests, f));
+          at_home = (let f : (k : ℕ) → home2.sharers k ≡ false = λ k. ap (λ x. x.sharers k) q
+              ∙ zn k in let ow : home2.owner ≡ i = ap (λ x. x.owner) q in grind (arith, nat_tests, f));
           acks = grind arith;
-          tie = (let words : home.words ≡ cur = let f : current_in home.state home.words (spots home.owner) ≡ cur = a.tie in grind arith in rw q (given_words n h home home i (spots i) (spots2 i) (a.caches i l d) home.words 0 1 (inr p) r t.loses (omega arith) t.down t.up ∙ words));
+          tie = (let words : home.words ≡ cur = let f : current_in home.state home.words (spots home.owner)
+              ≡ cur = a.tie in grind arith in rw q (given_words n h home home i (spots i) (spots2 i)
+              (a.caches i l d) home.words 0 1 (inr p) r t.loses (omega arith) t.down t.up ∙ words));
         }
 
   -- row 5
   pub row_5 : (i : ℕ) → i < n → i ≢ h → OwnSame (spots h) (spots2 h) →
-      ((j : ℕ) → j < n → j ≢ h → j ≢ i → home.sharers j ≡ true → spots2 j ≡ record (spots j) { down = (spots j).down ++ NInv ∷ [] }) →
+      ((j : ℕ) → j < n → j ≢ h → j ≢ i → home.sharers j ≡ true →
+      spots2 j ≡ record (spots j) { down = (spots j).down ++ NInv ∷ [] }) →
       ((j : ℕ) → j < n → j ≢ h → j ≢ i → home.sharers j ≡ false → spots2 j ≡ spots j) →
       home.state ≡ HomeRo → 1 ≤ members n (without_node home.sharers i) →
       home2 ≡ record home { state = HomeAcks; rest = OfRw i; sharers = nobody; acks = members n (without_node home.sharers i) } →
@@ -109,15 +130,19 @@ module _ (n h : ℕ) (cur : List ℕ) (home home2 : Here) (spots spots2 : ℕ �
       r : home.rest ≡ NoRest
       r = grind arith
 
-      at : (j : ℕ) → j < n → j ≢ h → (x : Bool) → home.sharers j ≡ x → (j ≡ i) ⊎ (j ≢ i) → AtCache n h home2 j (spots2 j) × (owes (spots2 j) ≡ one_if (without_node home.sharers i j))
+      at : (j : ℕ) → j < n → j ≢ h → (x : Bool) → home.sharers j ≡ x → (j ≡ i) ⊎ (j ≢ i) →
+          AtCache n h home2 j (spots2 j) × (owes (spots2 j) ≡ one_if (without_node home.sharers i j))
       at j lj dj x y (inl z) =
-          let w : AtCache n h home2 i (spots2 i) × (owes (spots2 i) ≡ 0) = held_back n h home home2 i (spots i) (spots2 i) (a.caches i l d) k p r q t.loses (t.down ∙ append-nil _) t.up in
+          let w : AtCache n h home2 i (spots2 i) × (owes (spots2 i) ≡ 0) =
+          held_back n h home home2 i (spots i) (spots2 i) (a.caches i l d) k p r q t.loses (t.down ∙ append-nil _) t.up in
           rw z (w.0, grind (arith, nat_tests))
       at j lj dj true y (inr z) =
-          let w : AtCache n h home2 j (spots2 j) × (owes (spots2 j) ≡ 1) = sent_inv n h home home2 j (spots j) (spots2 j) (a.caches j lj dj) i k z y p r q (o1 j lj dj z y) in
+          let w : AtCache n h home2 j (spots2 j) × (owes (spots2 j) ≡ 1) =
+          sent_inv n h home home2 j (spots j) (spots2 j) (a.caches j lj dj) i k z y p r q (o1 j lj dj z y) in
           (w.0, grind (arith, nat_tests))
       at j lj dj false y (inr z) =
-          let w : AtCache n h home2 j (spots2 j) × (owes (spots2 j) ≡ 0) = sent_none n h home home2 j (spots j) (spots2 j) (a.caches j lj dj) i k z y p r q (o0 j lj dj z y) in
+          let w : AtCache n h home2 j (spots2 j) × (owes (spots2 j) ≡ 0) =
+          sent_none n h home home2 j (spots j) (spots2 j) (a.caches j lj dj) i k z y p r q (o0 j lj dj z y) in
           (w.0, grind (arith, nat_tests))
 
       none_at_home : home.sharers h ≡ false
@@ -127,7 +152,9 @@ module _ (n h : ℕ) (cur : List ℕ) (home home2 : Here) (spots spots2 : ℕ �
       owed_at_home = grind (arith, nat_tests)
 
       same : k ≡ sum_below n (λ j. owes (spots2 j))
-      same = sym (sum_below_same n _ _ (λ j lj. elim (cases_eq j h) [ inl e ↦ rw e owed_at_home | inr e ↦ (at j lj e (home.sharers j) refl (cases_eq j i)).1 ]))
+      same = sym
+          (sum_below_same n _ _ (λ j lj. elim (cases_eq j h)
+          [ inl e ↦ rw e owed_at_home | inr e ↦ (at j lj e (home.sharers j) refl (cases_eq j i)).1 ]))
 
   -- row 3, with the home's fault no longer deferred
   pub row_3 : (spots2 h).ask ≡ [] → (spots2 h).down ≡ [] → (spots2 h).up ≡ [] → (spots2 h).kept ≡ [] →
@@ -148,12 +175,17 @@ module _ (n h : ℕ) (cur : List ℕ) (home home2 : Here) (spots spots2 : ℕ �
       r : home.rest ≡ NoRest
       r = grind arith
 
-      at : (j : ℕ) → j < n → j ≢ h → (x : Bool) → home.sharers j ≡ x → AtCache n h home2 j (spots2 j) × (owes (spots2 j) ≡ one_if (home.sharers j))
+      at : (j : ℕ) → j < n → j ≢ h → (x : Bool) → home.sharers j ≡ x →
+          AtCache n h home2 j (spots2 j) × (owes (spots2 j) ≡ one_if (home.sharers j))
       at j lj dj true y =
-          let w : AtCache n h home2 j (spots2 j) × (owes (spots2 j) ≡ 1) = sent_inv_home n h home home2 j (spots j) (spots2 j) (a.caches j lj dj) (members n home.sharers) y p r q (o1 j lj dj y) in
+          let w : AtCache n h home2 j (spots2 j) × (owes (spots2 j) ≡ 1) =
+          sent_inv_home n h home home2 j (spots j) (spots2 j) (a.caches j lj dj) (members n home.sharers) y p r q
+          (o1 j lj dj y) in
           (w.0, grind arith)
       at j lj dj false y =
-          let w : AtCache n h home2 j (spots2 j) × (owes (spots2 j) ≡ 0) = sent_none_home n h home home2 j (spots j) (spots2 j) (a.caches j lj dj) (members n home.sharers) y p r q (o0 j lj dj y) in
+          let w : AtCache n h home2 j (spots2 j) × (owes (spots2 j) ≡ 0) =
+          sent_none_home n h home home2 j (spots j) (spots2 j) (a.caches j lj dj) (members n home.sharers) y p r q
+          (o0 j lj dj y) in
           (w.0, grind arith)
 
       none_at_home : home.sharers h ≡ false
@@ -163,7 +195,9 @@ module _ (n h : ℕ) (cur : List ℕ) (home home2 : Here) (spots spots2 : ℕ �
       owed_at_home = grind (arith, nat_tests)
 
       same : members n home.sharers ≡ sum_below n (λ j. owes (spots2 j))
-      same = sym (sum_below_same n _ _ (λ j lj. elim (cases_eq j h) [ inl e ↦ rw e owed_at_home | inr e ↦ (at j lj e (home.sharers j) refl).1 ]))
+      same = sym
+          (sum_below_same n _ _ (λ j lj. elim (cases_eq j h)
+          [ inl e ↦ rw e owed_at_home | inr e ↦ (at j lj e (home.sharers j) refl).1 ]))
 
   -- row 8, the home's own store
   pub row_8 : (spots2 h).ask ≡ [] → (spots2 h).down ≡ [] → (spots2 h).up ≡ [] → (spots2 h).kept ≡ [] →
@@ -179,7 +213,10 @@ module _ (n h : ℕ) (cur : List ℕ) (home home2 : Here) (spots spots2 : ℕ �
         ];
         at_home = grind (arith, nat_tests);
         acks = grind arith;
-        tie = (let words : owner_words (spots home.owner) ≡ cur = (let f : current_in home.state home.words (spots home.owner) ≡ cur = a.tie in rw p at f) in let owner : IsCacheNode n h home.owner = grind arith in rw q (recall_words n h home home home.owner (spots home.owner) (spots2 home.owner) (a.caches home.owner owner.0 owner.1) p refl oo ∙ words));
+        tie = (let words : owner_words (spots home.owner) ≡ cur = (let f : current_in home.state home.words (spots home.owner)
+            ≡ cur = a.tie in rw p at f) in let owner : IsCacheNode n h home.owner = grind arith in rw q
+            (recall_words n h home home home.owner (spots home.owner) (spots2 home.owner)
+            (a.caches home.owner owner.0 owner.1) p refl oo ∙ words));
       }
 
   -- row 7, the home's own load
@@ -196,50 +233,67 @@ module _ (n h : ℕ) (cur : List ℕ) (home home2 : Here) (spots spots2 : ℕ �
         ];
         at_home = grind (arith, nat_tests);
         acks = grind arith;
-        tie = (let words : owner_words (spots home.owner) ≡ cur = (let f : current_in home.state home.words (spots home.owner) ≡ cur = a.tie in rw p at f) in let owner : IsCacheNode n h home.owner = grind arith in rw q (recall_ro_words n h home home home.owner (spots home.owner) (spots2 home.owner) (a.caches home.owner owner.0 owner.1) p refl oo ∙ words));
+        tie = (let words : owner_words (spots home.owner) ≡ cur = (let f : current_in home.state home.words (spots home.owner)
+            ≡ cur = a.tie in rw p at f) in let owner : IsCacheNode n h home.owner = grind arith in rw q
+            (recall_ro_words n h home home home.owner (spots home.owner) (spots2 home.owner)
+            (a.caches home.owner owner.0 owner.1) p refl oo ∙ words));
       }
 
   -- rows 9 and 10
   pub row_9 : (i : ℕ) → i < n → i ≢ h → OwnSame (spots h) (spots2 h) → i ≢ home.owner →
       spots2 home.owner ≡ record (spots home.owner) { down = (spots home.owner).down ++ NRecallRo ∷ [] } →
       ((j : ℕ) → j ≢ h → j ≢ i → j ≢ home.owner → spots2 j ≡ spots j) →
-      home.state ≡ HomeExcl → home2 ≡ record home { state = HomePut; rest = OfRo i } → Asked (spots i) (spots2 i) 1 0 [] → AtBlock n h cur home2 spots2
+      home.state ≡ HomeExcl → home2 ≡ record home { state = HomePut; rest = OfRo i } → Asked (spots i) (spots2 i) 1 0 [] →
+      AtBlock n h cur home2 spots2
   row_9 i l d own io oo o p q t =
       let r : home.rest ≡ NoRest = grind arith in
       record {
         caches = λ j lj dj. at j lj dj (cases_eq j i) (cases_eq j home.owner);
         at_home = grind (arith, nat_tests);
         acks = grind arith;
-        tie = (let words : owner_words (spots home.owner) ≡ cur = (let f : current_in home.state home.words (spots home.owner) ≡ cur = a.tie in rw p at f) in let owner : IsCacheNode n h home.owner = grind arith in rw q (recall_ro_words n h home home home.owner (spots home.owner) (spots2 home.owner) (a.caches home.owner owner.0 owner.1) p refl oo ∙ words));
+        tie = (let words : owner_words (spots home.owner) ≡ cur = (let f : current_in home.state home.words (spots home.owner)
+            ≡ cur = a.tie in rw p at f) in let owner : IsCacheNode n h home.owner = grind arith in rw q
+            (recall_ro_words n h home home home.owner (spots home.owner) (spots2 home.owner)
+            (a.caches home.owner owner.0 owner.1) p refl oo ∙ words));
       }
     where
       r : home.rest ≡ NoRest
       r = grind arith
 
       at : (j : ℕ) → j < n → j ≢ h → (j ≡ i) ⊎ (j ≢ i) → (j ≡ home.owner) ⊎ (j ≢ home.owner) → AtCache n h home2 j (spots2 j)
-      at j lj dj (inl e) x = rw e (held_for_ro n h home home2 i (spots i) (spots2 i) (a.caches i l d) p r q io t.loses (t.down ∙ append-nil _) t.up)
+      at j lj dj (inl e) x =
+          rw e (held_for_ro n h home home2 i (spots i) (spots2 i) (a.caches i l d) p r q io t.loses
+          (t.down ∙ append-nil _) t.up)
       at j lj dj (inr e) (inl x) = recalled_ro n h home home2 j (spots j) (spots2 j) (a.caches j lj dj) i e x p r q (rw x oo)
-      at j lj dj (inr e) (inr x) = beside_recall n h home home2 j (spots j) (spots2 j) (a.caches j lj dj) (OfRo i) (grind (arith, nat_tests)) x p r q (o j dj e x)
+      at j lj dj (inr e) (inr x) = beside_recall n h home home2 j (spots j) (spots2 j) (a.caches j lj dj) (OfRo i)
+          (grind (arith, nat_tests)) x p r q (o j dj e x)
 
   pub row_10 : (i : ℕ) → i < n → i ≢ h → OwnSame (spots h) (spots2 h) → i ≢ home.owner →
       spots2 home.owner ≡ record (spots home.owner) { down = (spots home.owner).down ++ NRecall ∷ [] } →
       ((j : ℕ) → j ≢ h → j ≢ i → j ≢ home.owner → spots2 j ≡ spots j) →
-      home.state ≡ HomeExcl → home2 ≡ record home { state = HomePut; rest = OfRw i } → Asked (spots i) (spots2 i) 0 1 [] → AtBlock n h cur home2 spots2
+      home.state ≡ HomeExcl → home2 ≡ record home { state = HomePut; rest = OfRw i } → Asked (spots i) (spots2 i) 0 1 [] →
+      AtBlock n h cur home2 spots2
   row_10 i l d own io oo o p q t =
       record {
         caches = λ j lj dj. at j lj dj (cases_eq j i) (cases_eq j home.owner);
         at_home = grind (arith, nat_tests);
         acks = grind arith;
-        tie = (let words : owner_words (spots home.owner) ≡ cur = (let f : current_in home.state home.words (spots home.owner) ≡ cur = a.tie in rw p at f) in let owner : IsCacheNode n h home.owner = grind arith in rw q (recall_words n h home home home.owner (spots home.owner) (spots2 home.owner) (a.caches home.owner owner.0 owner.1) p refl oo ∙ words));
+        tie = (let words : owner_words (spots home.owner) ≡ cur = (let f : current_in home.state home.words (spots home.owner)
+            ≡ cur = a.tie in rw p at f) in let owner : IsCacheNode n h home.owner = grind arith in rw q
+            (recall_words n h home home home.owner (spots home.owner) (spots2 home.owner)
+            (a.caches home.owner owner.0 owner.1) p refl oo ∙ words));
       }
     where
       r : home.rest ≡ NoRest
       r = grind arith
 
       at : (j : ℕ) → j < n → j ≢ h → (j ≡ i) ⊎ (j ≢ i) → (j ≡ home.owner) ⊎ (j ≢ home.owner) → AtCache n h home2 j (spots2 j)
-      at j lj dj (inl e) x = rw e (held_for_rw n h home home2 i (spots i) (spots2 i) (a.caches i l d) p r q io t.loses (t.down ∙ append-nil _) t.up)
+      at j lj dj (inl e) x =
+          rw e (held_for_rw n h home home2 i (spots i) (spots2 i) (a.caches i l d) p r q io t.loses
+          (t.down ∙ append-nil _) t.up)
       at j lj dj (inr e) (inl x) = recalled_rw n h home home2 j (spots j) (spots2 j) (a.caches j lj dj) i e x p r q (rw x oo)
-      at j lj dj (inr e) (inr x) = beside_recall n h home home2 j (spots j) (spots2 j) (a.caches j lj dj) (OfRw i) (grind (arith, nat_tests)) x p r q (o j dj e x)
+      at j lj dj (inr e) (inr x) = beside_recall n h home home2 j (spots j) (spots2 j) (a.caches j lj dj) (OfRw i)
+          (grind (arith, nat_tests)) x p r q (o j dj e x)
 
   -- row 11
   pub row_11 : (i : ℕ) → i < n → i ≢ h → OwnSame (spots h) (spots2 h) → ((j : ℕ) → j ≢ h → j ≢ i → spots2 j ≡ spots j) →
@@ -266,10 +320,12 @@ module _ (n h : ℕ) (cur : List ℕ) (home home2 : Here) (spots spots2 : ℕ �
       sums = sum_below_one n (λ j. owes (spots j)) (λ j. owes (spots2 j)) i l (λ j lj x. other j x)
 
   -- once the last ACK is in, no cache owes anything, so long as all but its sender owe what they owed
-  pub none_owes : (i : ℕ) → i < n → home.state ≡ HomeAcks → home.acks < 2 → owes (spots i) ≡ 1 → (j : ℕ) → j < n → j ≢ i → owes (spots j) ≡ 0
+  pub none_owes : (i : ℕ) → i < n → home.state ≡ HomeAcks → home.acks < 2 → owes (spots i) ≡ 1 → (j : ℕ) → j < n → j ≢ i →
+      owes (spots j) ≡ 0
   none_owes i l p m e j lj d =
       let first : sum_below n (λ k. owes (spots k)) ≡ home.acks = sym (a.acks p) in
-      let pair : owes (spots i) + owes (spots j) ≤ sum_below n (λ k. owes (spots k)) = sum_below_two n (λ k. owes (spots k)) i j l lj d in
+      let pair : owes (spots i) + owes (spots j) ≤ sum_below n (λ k. owes (spots k)) =
+      sum_below_two n (λ k. owes (spots k)) i j l lj d in
       omega arith
 
   -- row 12
@@ -281,9 +337,14 @@ module _ (n h : ℕ) (cur : List ℕ) (home home2 : Here) (spots spots2 : ℕ �
       record {
         caches = λ j lj dj. elim (cases_eq j i) [
           | inl x ↦ rw x (all_home n h mid home2 i (spots2 i) (spots2 i) at_i.0 0 p r q at_i.2 refl)
-          | inr x ↦ all_home n h home home2 j (spots j) (spots2 j) (a.caches j lj dj) 0 p r q (none_owes i l p m at_i.1 j lj x) (o j dj x)
+          | inr x ↦ all_home n h home home2 j (spots j) (spots2 j) (a.caches j lj dj) 0 p r q (none_owes i l p m at_i.1 j lj x)
+              (o j dj x)
         ];
-        at_home = (let none : (spots h).kept ≡ [] = no_faults (spots h).kept a.at_home.faults (let one : how_many is_rd_fault (spots h).kept + how_many is_wr_fault (spots h).kept + held_home home.rest ≤ 1 = a.at_home.one in let held : held_home home.rest ≡ 1 = rw r refl in omega arith) in grind (arith, nat_tests));
+        at_home =
+            (let none : (spots h).kept ≡ [] = no_faults (spots h).kept a.at_home.faults
+            (let one : how_many is_rd_fault (spots h).kept + how_many is_wr_fault
+            (spots h).kept + held_home home.rest ≤ 1 = a.at_home.one in let held : held_home home.rest ≡ 1 =
+            rw r refl in omega arith) in grind (arith, nat_tests));
         acks = grind arith;
         tie = grind arith;
       }
@@ -295,7 +356,8 @@ module _ (n h : ℕ) (cur : List ℕ) (home home2 : Here) (spots spots2 : ℕ �
       at_i = took_ack n h home mid i (spots i) (spots2 i) (a.caches i l d) 0 rest p refl u e
 
   -- row 13
-  pub row_13 : (i b : ℕ) → i < n → i ≢ h → b < n → b ≢ h → OwnSame (spots h) (spots2 h) → ((j : ℕ) → j ≢ h → j ≢ i → j ≢ b → spots2 j ≡ spots j) →
+  pub row_13 : (i b : ℕ) → i < n → i ≢ h → b < n → b ≢ h → OwnSame (spots h) (spots2 h) →
+      ((j : ℕ) → j ≢ h → j ≢ i → j ≢ b → spots2 j ≡ spots j) →
       spots2 b ≡ record (spots b) { down = (spots b).down ++ NDataRw home.words ∷ [] } →
       (rest : List Note) → home.state ≡ HomeAcks → home.acks < 2 → home.rest ≡ OfRw b →
       home2 ≡ record home { state = HomeExcl; rest = NoRest; owner = b; acks = 0; tag = Invalid } →
@@ -305,22 +367,29 @@ module _ (n h : ℕ) (cur : List ℕ) (home home2 : Here) (spots spots2 : ℕ �
         caches = λ j lj dj. at j lj dj (cases_eq j b) (cases_eq j i);
         at_home = grind (arith, nat_tests);
         acks = grind arith;
-        tie = (let words : home.words ≡ cur = let f : current_in home.state home.words (spots home.owner) ≡ cur = a.tie in grind arith in rw q (asker_words n h home home b (spots b) (spots2 b) (a.caches b lb db) home.words (inl p) r ob ∙ words));
+        tie = (let words : home.words ≡ cur = let f : current_in home.state home.words (spots home.owner)
+            ≡ cur = a.tie in grind arith in rw q (asker_words n h home home b (spots b) (spots2 b)
+            (a.caches b lb db) home.words (inl p) r ob ∙ words));
       }
     where
       mid : Here
       mid = record home { acks = 0 }
 
-      at_i : (i ≢ b) × AtCache n h mid i (record (spots i) { up = rest }) × (owes (spots i) ≡ 1) × (owes (record (spots i) { up = rest }) ≡ 0)
+      at_i : (i ≢ b) × AtCache n h mid i (record (spots i) { up = rest }) × (owes (spots i) ≡ 1)
+          × (owes (record (spots i) { up = rest }) ≡ 0)
       at_i =
-          let w : AtCache n h mid i (record (spots i) { up = rest }) × (owes (spots i) ≡ 1) × (owes (record (spots i) { up = rest }) ≡ 0)
+          let w : AtCache n h mid i (record (spots i) { up = rest }) × (owes (spots i) ≡ 1)
+          × (owes (record (spots i) { up = rest }) ≡ 0)
           = took_ack n h home mid i (spots i) (record (spots i) { up = rest }) (a.caches i l d) 0 rest p refl u refl in
           ((λ x. let c : AtCache n h home i (spots i) = a.caches i l d in grind (arith, nat_tests)), w.0, w.1, w.2)
 
       at : (j : ℕ) → j < n → j ≢ h → (j ≡ b) ⊎ (j ≢ b) → (j ≡ i) ⊎ (j ≢ i) → AtCache n h home2 j (spots2 j)
       at j lj dj (inl x) y = rw x (gives_asker n h home home2 b (spots b) (spots2 b) (a.caches b lb db) 0 p r q ob)
-      at j lj dj (inr x) (inl y) = rw y (beside_gives_asker n h mid home2 i (record (spots i) { up = rest }) (spots2 i) at_i.1 0 b at_i.0 p r q at_i.3 (e at_i.0))
-      at j lj dj (inr x) (inr y) = beside_gives_asker n h home home2 j (spots j) (spots2 j) (a.caches j lj dj) 0 b x p r q (none_owes i l p m at_i.2 j lj y) (o j dj y x)
+      at j lj dj (inr x) (inl y) =
+          rw y (beside_gives_asker n h mid home2 i (record (spots i) { up = rest }) (spots2 i) at_i.1 0 b at_i.0 p r q at_i.3
+          (e at_i.0))
+      at j lj dj (inr x) (inr y) = beside_gives_asker n h home home2 j (spots j) (spots2 j) (a.caches j lj dj) 0 b x p r q
+          (none_owes i l p m at_i.2 j lj y) (o j dj y x)
 
   -- row 15
   pub row_15 : (i : ℕ) → i < n → i ≢ h → OwnSame (spots h) (spots2 h) → ((j : ℕ) → j ≢ h → j ≢ i → spots2 j ≡ spots j) →
@@ -328,15 +397,24 @@ module _ (n h : ℕ) (cur : List ℕ) (home home2 : Here) (spots spots2 : ℕ �
       home2 ≡ record home { state = HomeRw; rest = NoRest; tag = ReadWrite; words = vs } →
       (spots i).up ≡ NPut vs ∷ rest → spots2 i ≡ record (spots i) { up = rest } → AtBlock n h cur home2 spots2
   row_15 i l d own o vs rest p r q u e =
-      let w : (i ≡ home.owner) × (rest ≡ []) = put_is_owners n h home home2 i (spots i) (spots2 i) (a.caches i l d) vs rest p (inl r) u in
+      let w : (i ≡ home.owner) × (rest ≡ []) = put_is_owners n h home home2 i (spots i) (spots2 i) (a.caches i l d) vs rest p
+      (inl r) u in
       record {
         caches = λ j lj dj. elim (cases_eq j i) [
           | inl x ↦ rw x (took_put_home n h home home2 i (spots i) (spots2 i) (a.caches i l d) vs rest p r q u e)
-          | inr x ↦ beside_put_home n h home home2 j (spots j) (spots2 j) (a.caches j lj dj) vs p r q (λ y. x (y ∙ sym w.0)) (o j dj x)
+          | inr x ↦ beside_put_home n h home home2 j (spots j) (spots2 j) (a.caches j lj dj) vs p r q (λ y. x (y ∙ sym w.0))
+              (o j dj x)
         ];
-        at_home = (let none : (spots h).kept ≡ [] = no_faults (spots h).kept a.at_home.faults (let one : how_many is_rd_fault (spots h).kept + how_many is_wr_fault (spots h).kept + held_home home.rest ≤ 1 = a.at_home.one in let held : held_home home.rest ≡ 1 = rw r refl in omega arith) in grind (arith, nat_tests));
+        at_home =
+            (let none : (spots h).kept ≡ [] = no_faults (spots h).kept a.at_home.faults
+            (let one : how_many is_rd_fault (spots h).kept + how_many is_wr_fault
+            (spots h).kept + held_home home.rest ≤ 1 = a.at_home.one in let held : held_home home.rest ≡ 1 =
+            rw r refl in omega arith) in grind (arith, nat_tests));
         acks = grind arith;
-        tie = (let put_tie : i ≡ home.owner → owner_words (spots i) ≡ cur = (λ o2. (let f : current_in home.state home.words (spots home.owner) ≡ cur = a.tie in rw (ap (λ z. owner_words (spots z)) o2) (rw p at f))) in rw q (sym (put_words n h home home i (spots i) (spots i) (a.caches i l d) vs rest p (inl r) u) ∙ put_tie w.0));
+        tie = (let put_tie : i ≡ home.owner → owner_words (spots i)
+            ≡ cur = (λ o2. (let f : current_in home.state home.words (spots home.owner)
+            ≡ cur = a.tie in rw (ap (λ z. owner_words (spots z)) o2) (rw p at f))) in rw q
+            (sym (put_words n h home home i (spots i) (spots i) (a.caches i l d) vs rest p (inl r) u) ∙ put_tie w.0));
       }
 
   -- the home's own load goes on: the owner shares
@@ -345,29 +423,52 @@ module _ (n h : ℕ) (cur : List ℕ) (home home2 : Here) (spots spots2 : ℕ �
       home2 ≡ record home { state = HomeRo; rest = NoRest; sharers = with_node nobody home.owner; tag = ReadOnly; words = vs } →
       (spots i).up ≡ NPutRo vs ∷ rest → spots2 i ≡ record (spots i) { up = rest } → AtBlock n h cur home2 spots2
   row_load i l d own o vs rest p r q u e =
-      let w : (i ≡ home.owner) × (rest ≡ []) = put_ro_is_owners n h home home2 i (spots i) (spots2 i) (a.caches i l d) vs rest p (inl r) u in
+      let w : (i ≡ home.owner) × (rest ≡ []) = put_ro_is_owners n h home home2 i (spots i) (spots2 i)
+      (a.caches i l d) vs rest p (inl r) u in
       record {
         caches = λ j lj dj. elim (cases_eq j i) [
           | inl x ↦ rw x (shares_load n h home home2 i (spots i) (spots2 i) (a.caches i l d) vs rest w.0 p r q u e)
-          | inr x ↦ beside_load n h home home2 j (spots j) (spots2 j) (a.caches j lj dj) vs p r q (λ y. x (y ∙ sym w.0)) (o j dj x)
+          | inr x ↦ beside_load n h home home2 j (spots j) (spots2 j) (a.caches j lj dj) vs p r q (λ y. x (y ∙ sym w.0))
+              (o j dj x)
         ];
-        at_home = (let none : (spots h).kept ≡ [] = no_faults (spots h).kept a.at_home.faults (let one : how_many is_rd_fault (spots h).kept + how_many is_wr_fault (spots h).kept + held_home home.rest ≤ 1 = a.at_home.one in let held : held_home home.rest ≡ 1 = rw r refl in omega arith) in let mem : 1 ≤ members n home2.sharers = members_has n _ i l (let io : i ≡ home.owner = w.0 in let who : home2.sharers ≡ with_node nobody home.owner = ap (λ z. z.sharers) q in grind (arith, nat_tests)) in grind (arith, nat_tests));
+        at_home =
+            (let none : (spots h).kept ≡ [] = no_faults (spots h).kept a.at_home.faults
+            (let one : how_many is_rd_fault (spots h).kept + how_many is_wr_fault
+            (spots h).kept + held_home home.rest ≤ 1 = a.at_home.one in let held : held_home home.rest ≡ 1 =
+            rw r refl in omega arith) in let mem : 1 ≤ members n home2.sharers = members_has n _ i l
+            (let io : i ≡ home.owner = w.0 in let who : home2.sharers
+            ≡ with_node nobody home.owner = ap (λ z. z.sharers) q in grind (arith, nat_tests)) in grind (arith, nat_tests));
         acks = grind arith;
-        tie = (let put_tie : i ≡ home.owner → owner_words (spots i) ≡ cur = (λ o2. (let f : current_in home.state home.words (spots home.owner) ≡ cur = a.tie in rw (ap (λ z. owner_words (spots z)) o2) (rw p at f))) in rw q (sym (put_ro_words n h home home i (spots i) (spots i) (a.caches i l d) vs rest p (inl r) u) ∙ put_tie w.0));
+        tie = (let put_tie : i ≡ home.owner → owner_words (spots i)
+            ≡ cur = (λ o2. (let f : current_in home.state home.words (spots home.owner)
+            ≡ cur = a.tie in rw (ap (λ z. owner_words (spots z)) o2) (rw p at f))) in rw q
+            (sym (put_ro_words n h home home i (spots i) (spots i) (a.caches i l d) vs rest p (inl r) u) ∙ put_tie w.0));
       }
 
   -- row 16: the owner and the asker b share
-  pub row_16 : (i b : ℕ) → i < n → i ≢ h → b < n → b ≢ h → i ≢ b → OwnSame (spots h) (spots2 h) → ((j : ℕ) → j ≢ h → j ≢ i → j ≢ b → spots2 j ≡ spots j) →
+  pub row_16 : (i b : ℕ) → i < n → i ≢ h → b < n → b ≢ h → i ≢ b → OwnSame (spots h) (spots2 h) →
+      ((j : ℕ) → j ≢ h → j ≢ i → j ≢ b → spots2 j ≡ spots j) →
       (vs : List ℕ) (rest : List Note) → home.state ≡ HomePut → home.rest ≡ OfRo b →
-      home2 ≡ record home { state = HomeRo; rest = NoRest; sharers = with_node (with_node nobody home.owner) b; tag = ReadOnly; words = vs } →
+      home2 ≡ record home {
+        state = HomeRo;
+        rest = NoRest;
+        sharers = with_node (with_node nobody home.owner) b;
+        tag = ReadOnly;
+        words = vs;
+      } →
       spots2 b ≡ record (spots b) { down = (spots b).down ++ NDataRo vs ∷ [] } →
       (spots i).up ≡ NPutRo vs ∷ rest → spots2 i ≡ record (spots i) { up = rest } → AtBlock n h cur home2 spots2
   row_16 i b l d lb db ib own o vs rest p r q ob u e =
       record {
         caches = λ j lj dj. at j lj dj (cases_eq j b) (cases_eq j i);
-        at_home = (let mem : 1 ≤ members n home2.sharers = members_has n _ b lb (grind (arith, nat_tests)) in grind (arith, nat_tests));
+        at_home =
+            (let mem : 1 ≤ members n home2.sharers = members_has n _ b lb (grind (arith, nat_tests)) in grind
+            (arith, nat_tests));
         acks = grind arith;
-        tie = (let put_tie : i ≡ home.owner → owner_words (spots i) ≡ cur = (λ o2. (let f : current_in home.state home.words (spots home.owner) ≡ cur = a.tie in rw (ap (λ z. owner_words (spots z)) o2) (rw p at f))) in rw q (sym (put_ro_words n h home home i (spots i) (spots i) (a.caches i l d) vs rest p (inr of_ro) u) ∙ put_tie w.0));
+        tie = (let put_tie : i ≡ home.owner → owner_words (spots i)
+            ≡ cur = (λ o2. (let f : current_in home.state home.words (spots home.owner)
+            ≡ cur = a.tie in rw (ap (λ z. owner_words (spots z)) o2) (rw p at f))) in rw q
+            (sym (put_ro_words n h home home i (spots i) (spots i) (a.caches i l d) vs rest p (inr of_ro) u) ∙ put_tie w.0));
       }
     where
       of_ro : IsOfRo home.rest
@@ -379,9 +480,11 @@ module _ (n h : ℕ) (cur : List ℕ) (home home2 : Here) (spots spots2 : ℕ �
       at : (j : ℕ) → j < n → j ≢ h → (j ≡ b) ⊎ (j ≢ b) → (j ≡ i) ⊎ (j ≢ i) → AtCache n h home2 j (spots2 j)
       at j lj dj (inl x) y = rw x (asker_ro n h home home2 b (spots b) (spots2 b) (a.caches b lb db) vs p r q ob)
       at j lj dj (inr x) (inl y) = rw y (shares_ro n h home home2 i (spots i) (spots2 i) (a.caches i l d) vs rest b w.0 p r q u e)
-      at j lj dj (inr x) (inr y) = beside_ro n h home home2 j (spots j) (spots2 j) (a.caches j lj dj) vs b p r q x (λ z. y (z ∙ sym w.0)) (o j dj y x)
+      at j lj dj (inr x) (inr y) = beside_ro n h home home2 j (spots j) (spots2 j) (a.caches j lj dj) vs b p r q x
+          (λ z. y (z ∙ sym w.0)) (o j dj y x)
 
-  pub row_17 : (i b : ℕ) → i < n → i ≢ h → b < n → b ≢ h → i ≢ b → OwnSame (spots h) (spots2 h) → ((j : ℕ) → j ≢ h → j ≢ i → j ≢ b → spots2 j ≡ spots j) →
+  pub row_17 : (i b : ℕ) → i < n → i ≢ h → b < n → b ≢ h → i ≢ b → OwnSame (spots h) (spots2 h) →
+      ((j : ℕ) → j ≢ h → j ≢ i → j ≢ b → spots2 j ≡ spots j) →
       (vs : List ℕ) (rest : List Note) → home.state ≡ HomePut → home.rest ≡ OfRw b →
       home2 ≡ record home { state = HomeExcl; rest = NoRest; owner = b; tag = Invalid; words = vs } →
       spots2 b ≡ record (spots b) { down = (spots b).down ++ NDataRw vs ∷ [] } →
@@ -391,7 +494,11 @@ module _ (n h : ℕ) (cur : List ℕ) (home home2 : Here) (spots spots2 : ℕ �
         caches = λ j lj dj. at j lj dj (cases_eq j b) (cases_eq j i);
         at_home = grind (arith, nat_tests);
         acks = grind arith;
-        tie = (let put_tie : i ≡ home.owner → owner_words (spots i) ≡ cur = (λ o2. (let f : current_in home.state home.words (spots home.owner) ≡ cur = a.tie in rw (ap (λ z. owner_words (spots z)) o2) (rw p at f))) in rw q (asker_words n h home home b (spots b) (spots2 b) (a.caches b lb db) vs (inr p) r ob ∙ sym (put_words n h home home i (spots i) (spots i) (a.caches i l d) vs rest p (inr of_rw) u) ∙ put_tie w.0));
+        tie = (let put_tie : i ≡ home.owner → owner_words (spots i)
+            ≡ cur = (λ o2. (let f : current_in home.state home.words (spots home.owner)
+            ≡ cur = a.tie in rw (ap (λ z. owner_words (spots z)) o2) (rw p at f))) in rw q
+            (asker_words n h home home b (spots b) (spots2 b) (a.caches b lb db) vs (inr p) r ob
+            ∙ sym (put_words n h home home i (spots i) (spots i) (a.caches i l d) vs rest p (inr of_rw) u) ∙ put_tie w.0));
       }
     where
       of_rw : IsOfRw home.rest
@@ -403,7 +510,8 @@ module _ (n h : ℕ) (cur : List ℕ) (home home2 : Here) (spots spots2 : ℕ �
       at : (j : ℕ) → j < n → j ≢ h → (j ≡ b) ⊎ (j ≢ b) → (j ≡ i) ⊎ (j ≢ i) → AtCache n h home2 j (spots2 j)
       at j lj dj (inl x) y = rw x (asker_put_rw n h home home2 b (spots b) (spots2 b) (a.caches b lb db) vs p r q ob)
       at j lj dj (inr x) (inl y) = rw y (took_put_rw n h home home2 i (spots i) (spots2 i) (a.caches i l d) vs rest b p r q u e)
-      at j lj dj (inr x) (inr y) = beside_put_rw n h home home2 j (spots j) (spots2 j) (a.caches j lj dj) vs b p r q x (λ z. y (z ∙ sym w.0)) (o j dj y x)
+      at j lj dj (inr x) (inr y) = beside_put_rw n h home home2 j (spots j) (spots2 j) (a.caches j lj dj) vs b p r q x
+          (λ z. y (z ∙ sym w.0)) (o j dj y x)
 
   -- rows 14 and 18 at a GET: the request moves
   pub row_defer : (i : ℕ) → i < n → i ≢ h → OwnSame (spots h) (spots2 h) → ((j : ℕ) → j ≢ h → j ≢ i → spots2 j ≡ spots j) →
@@ -419,17 +527,30 @@ module _ (n h : ℕ) (cur : List ℕ) (home home2 : Here) (spots spots2 : ℕ �
         tie = rw q (defer_tie (cases_eq home.owner i) (cases_eq home.owner h));
       }
     where
-      defer_tie : (home.owner ≡ i) ⊎ (home.owner ≢ i) → (home.owner ≡ h) ⊎ (home.owner ≢ h) → current_in home.state home.words (spots2 home.owner) ≡ cur
+      defer_tie : (home.owner ≡ i) ⊎ (home.owner ≢ i) → (home.owner ≡ h) ⊎ (home.owner ≢ h) →
+          current_in home.state home.words (spots2 home.owner) ≡ cur
       defer_tie x (inl y) = home_words y
       defer_tie (inr x) (inr y) = ap (λ z. current_in home.state home.words z) (o home.owner y x) ∙ a.tie
-      defer_tie (inl x) (inr y) = current_same home.state home.words _ _ (rw x (owner_words_same (spots i) (spots2 i) t.loses.state t.loses.words (t.down ∙ append-nil _) t.up)) ∙ a.tie
+      defer_tie (inl x) (inr y) = current_same home.state home.words _ _
+          (rw x (owner_words_same (spots i) (spots2 i) t.loses.state t.loses.words (t.down ∙ append-nil _) t.up)) ∙ a.tie
 
       other : (j : ℕ) → owes (spots2 j) ≡ owes (spots j)
-      other j = elim (cases_eq j h) [ inl y ↦ grind arith | inr y ↦ elim (cases_eq j i) [ inl x ↦ rw x (let e : (spots2 i).down ≡ (spots i).down = t.down ∙ append-nil _ in grind arith) | inr x ↦ ap owes (o j y x) ] ]
+      other j =
+          elim (cases_eq j h) [
+            | inl y ↦ grind arith
+            | inr y ↦ elim
+                (cases_eq j i) [
+                  | inl x ↦ rw x (let e : (spots2 i).down ≡ (spots i).down = t.down ∙ append-nil _ in grind arith)
+                  | inr
+                      x ↦ ap owes (o j y x)
+                ]
+          ]
 
   -- the home's own fault is deferred, or taken with nothing else changed: row 2, and rows 14 and 18 at a fault
-  pub row_own : home2 ≡ home → ((j : ℕ) → j ≢ h → spots2 j ≡ spots j) → (spots2 h).ask ≡ [] → (spots2 h).down ≡ [] → (spots2 h).up ≡ [] →
-      Each IsFault (spots2 h).kept → how_many is_rd_fault (spots2 h).kept + how_many is_wr_fault (spots2 h).kept + held_home home.rest ≤ 1 → (home.state ≡ HomeRw → (spots2 h).kept ≡ []) →
+  pub row_own : home2 ≡ home → ((j : ℕ) → j ≢ h → spots2 j ≡ spots j) → (spots2 h).ask ≡ [] → (spots2 h).down ≡ [] →
+      (spots2 h).up ≡ [] →
+      Each IsFault (spots2 h).kept → how_many is_rd_fault (spots2 h).kept + how_many is_wr_fault
+      (spots2 h).kept + held_home home.rest ≤ 1 → (home.state ≡ HomeRw → (spots2 h).kept ≡ []) →
       AtBlock n h cur home2 spots2
   row_own q o ask down up each one none =
       record {
@@ -447,7 +568,8 @@ module _ (n h : ℕ) (cur : List ℕ) (home home2 : Here) (spots spots2 : ℕ �
       other j = elim (cases_eq j h) [ inl y ↦ grind arith | inr y ↦ ap owes (o j y) ]
 
   -- a store at the home
-  pub home_store : (vs : List ℕ) → home.tag ≡ ReadWrite → home2 ≡ record home { words = vs } → ((j : ℕ) → j ≢ h → spots2 j ≡ spots j) → OwnSame (spots h) (spots2 h) → AtBlock n h vs home2 spots2
+  pub home_store : (vs : List ℕ) → home.tag ≡ ReadWrite → home2 ≡ record home { words = vs } →
+      ((j : ℕ) → j ≢ h → spots2 j ≡ spots j) → OwnSame (spots h) (spots2 h) → AtBlock n h vs home2 spots2
   home_store vs p q o own =
       let r : home.state ≡ HomeRw = grind arith in
       record {

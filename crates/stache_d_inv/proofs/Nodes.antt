@@ -1,7 +1,8 @@
 -- What the rows do to the facts on a node's mode and its next instruction.
 use Rattle.std.proofs.Common.{◌≡◌, ◌≢◌, ℕ, ◌+◌, ◌≤◌, true, false, Some, arith, refl, sym, ◌∙◌, inl, inr, ◌⊎◌, subst}
 use Rattle.std.proofs.lemmas.Bool.Decides.{nat_tests}
-use Rattle.block_spots.specs.Cases.{RdFault, WrFault, OfHome, OfLoad, Rest, State, HomeRw, HomeRo, HomeExcl, HomeAcks, HomePut, Message, Here, No, Effect}
+use Rattle.block_spots.specs.Cases.{RdFault, WrFault, OfHome, OfLoad, Rest, State, HomeRw, HomeRo, HomeExcl, HomeAcks, HomePut}
+use Rattle.block_spots.specs.Cases.{Message, Here, No, Effect}
 use Rattle.block_spots.specs.Notes.{Spot, held_home, is_rd_fault, is_wr_fault}
 use Rattle.block_spots.specs.Sketches.{Next, Loads, Stores}
 use Rattle.stache_d_inv.specs.Coherent.{allows_load, allows_store, AtHome, RestFits, HeldFor, standing}
@@ -28,7 +29,8 @@ record Served (home : Here) (e : Effect) : Type 0 where
   sleeps : e.woke ≡ false → (held_home e.here.rest ≡ held_home home.rest) × (1 ≤ held_home e.here.rest → e.here.rest ≡ home.rest)
   wakes : e.woke ≡ true → (1 ≤ held_home home.rest) × (held_home e.here.rest ≡ 0) × Serves home.rest e.here.tag
 
-served : (n h : ℕ) (home : Here) (sp : Spot) (m : Message) (e : Effect) → AtHome n h home sp → handle_in n h h home m ≡ Some e → m.kind ≢ RdFault → m.kind ≢ WrFault → Served home e
+served : (n h : ℕ) (home : Here) (sp : Spot) (m : Message) (e : Effect) → AtHome n h home sp →
+    handle_in n h h home m ≡ Some e → m.kind ≢ RdFault → m.kind ≢ WrFault → Served home e
 served n h home sp m e a does u v = go home.state refl a.rest
   where
     go : (x : State) → home.state ≡ x → RestFits n h home.state home.rest → Served home e
@@ -39,19 +41,30 @@ served n h home sp m e a does u v = go home.state refl a.rest
     go HomePut p r = grind (arith, nat_tests)
     go x p r = absurd (grind arith)
 
-pub home_effect : (n h : ℕ) (home : Here) (sp : Spot) (m : Message) (e : Effect) → AtHome n h home sp → handle_in n h h home m ≡ Some e → m.kind ≢ RdFault → m.kind ≢ WrFault → HomeEffect standing home e
+pub home_effect : (n h : ℕ) (home : Here) (sp : Spot) (m : Message) (e : Effect) → AtHome n h home sp →
+    handle_in n h h home m ≡ Some e → m.kind ≢ RdFault → m.kind ≢ WrFault → HomeEffect standing home e
 home_effect n h home sp m e a does u v = let f = served n h home sp m e a does u v in record {
   sleeps = λ w. ((f.sleeps w).0, λ held x b holds. subst (λ r. HeldFor r x b) (sym ((f.sleeps w).1 held)) holds);
-  wakes = λ w. ((f.wakes w).0, (f.wakes w).1, λ x b holds. (λ z. serves_load home.rest e.here.tag (f.wakes w).2, λ z. serves_store home.rest x e.here.tag b (f.wakes w).2 holds z));
+  wakes = λ w. (
+    (f.wakes w).0,
+    (f.wakes w).1,
+    λ x b holds. (
+      λ z. serves_load home.rest e.here.tag (f.wakes w).2,
+      λ z. serves_store home.rest x e.here.tag b (f.wakes w).2 holds z,
+    ),
+  );
 }
 
 -- the home's own fault
 record Own (m : Message) (e : Effect) (b : ℕ) : Type 0 where
   sleeps : e.woke ≡ false → (held_home e.here.rest + is_rd_fault (note_kept e m) + is_wr_fault (note_kept e m) ≡ 1)
-  held_as : e.woke ≡ false → 1 ≤ held_home e.here.rest → (m.kind ≡ WrFault) × (e.here.rest ≡ OfHome) ⊎ (m.kind ≡ RdFault) × (e.here.rest ≡ OfLoad)
+  held_as : e.woke ≡ false → 1 ≤ held_home e.here.rest → (m.kind ≡ WrFault) × (e.here.rest ≡ OfHome) ⊎ (m.kind ≡ RdFault)
+      × (e.here.rest ≡ OfLoad)
   wakes : e.woke ≡ true → (e.here.tag ≡ ReadOnly) × (m.kind ≡ RdFault) × (held_home e.here.rest ≡ 0) × (e.kept ≡ No)
 
-own : (n h : ℕ) (home : Here) (sp : Spot) (m : Message) (e : Effect) (b : ℕ) → AtHome n h home sp → handle_in n h h home m ≡ Some e → (m.kind ≡ RdFault) ⊎ (m.kind ≡ WrFault) → held_home home.rest ≡ 0 → home.state ≢ HomeRw → Own m e b
+own : (n h : ℕ) (home : Here) (sp : Spot) (m : Message) (e : Effect) (b : ℕ) → AtHome n h home sp →
+    handle_in n h h home m ≡ Some e → (m.kind ≡ RdFault) ⊎ (m.kind ≡ WrFault) → held_home home.rest ≡ 0 → home.state ≢ HomeRw →
+    Own m e b
 own n h home sp m e b a does k u v = go home.state refl k a.rest
   where
     go : (x : State) → home.state ≡ x → (m.kind ≡ RdFault) ⊎ (m.kind ≡ WrFault) → RestFits n h home.state home.rest → Own m e b
@@ -65,13 +78,16 @@ own n h home sp m e b a does k u v = go home.state refl k a.rest
     go HomePut p (inr q) r = grind (arith, nat_tests)
     go x p q r = absurd (grind arith)
 
-holds : (m : Message) (e : Effect) (x : Next) (b : ℕ) → (m.kind ≡ WrFault) × (e.here.rest ≡ OfHome) ⊎ (m.kind ≡ RdFault) × (e.here.rest ≡ OfLoad) → FaultOf b m.kind x → HeldFor e.here.rest x b
+holds : (m : Message) (e : Effect) (x : Next) (b : ℕ) → (m.kind ≡ WrFault) × (e.here.rest ≡ OfHome) ⊎ (m.kind ≡ RdFault)
+    × (e.here.rest ≡ OfLoad) → FaultOf b m.kind x → HeldFor e.here.rest x b
 holds m e x b (inl v) (inl z) = absurd (let f : RdFault ≡ WrFault = sym z.0 ∙ v.0 in cc)
 holds m e x b (inl v) (inr z) = rw v.1 z.1
 holds m e x b (inr v) (inl z) = rw v.1 z.1
 holds m e x b (inr v) (inr z) = absurd (let f : RdFault ≡ WrFault = sym v.0 ∙ z.0 in cc)
 
-pub own_effect : (n h : ℕ) (home : Here) (sp : Spot) (m : Message) (e : Effect) (b : ℕ) → AtHome n h home sp → handle_in n h h home m ≡ Some e → (m.kind ≡ RdFault) ⊎ (m.kind ≡ WrFault) → held_home home.rest ≡ 0 → home.state ≢ HomeRw → OwnEffect standing m e b
+pub own_effect : (n h : ℕ) (home : Here) (sp : Spot) (m : Message) (e : Effect) (b : ℕ) → AtHome n h home sp →
+    handle_in n h h home m ≡ Some e → (m.kind ≡ RdFault) ⊎ (m.kind ≡ WrFault) → held_home home.rest ≡ 0 → home.state ≢ HomeRw →
+    OwnEffect standing m e b
 own_effect n h home sp m e b a does k u v = let f = own n h home sp m e b a does k u v in record {
   sleeps = f.sleeps;
   holds = λ w held x z. holds m e x b (f.held_as w held) z;

@@ -2,14 +2,17 @@
 use Rattle.std.proofs.Common.{◌≡◌, ◌≢◌, ℕ, ◌+◌, ◌<◌, ◌≤◌, Bool, true, false, Some, arith, refl, inl, inr, ◌⊎◌}
 use Rattle.std.proofs.lemmas.Bool.{cases_lt}
 use Rattle.std.proofs.lemmas.Bool.Decides.{nat_tests}
-use Rattle.block_spots.specs.Cases.{Kind, RdFault, WrFault, GetRo, GetRw, Put, PutRo, Ack, State, HomeRw, HomeRo, HomeExcl, HomeAcks, HomePut, Rest, OfHome, OfLoad, OfRo, OfRw, Here, Message, Effect, members, without_node}
+use Rattle.block_spots.specs.Cases.{Kind, RdFault, WrFault, GetRo, GetRw, Put, PutRo, Ack, State, HomeRw, HomeRo, HomeExcl}
+use Rattle.block_spots.specs.Cases.{HomeAcks, HomePut, Rest, OfHome, OfLoad, OfRo, OfRw, Here, Message, Effect, members}
+use Rattle.block_spots.specs.Cases.{without_node}
 use Rattle.block_spots.specs.Notes.{Spot}
 use Rattle.stache_d_table.specs.Handling.{handle_by}
 use Rattle.stache_d_inv.specs.Coherent.{AtHome}
 use Rattle.stache_d_inv.specs.Potential.{weigh, price}
 use Rattle.coherence_frame.proofs.Paying.{Paid, inv_count, inv_price, inv_weight, members_but}
 
-module _ (n h : ℕ) (home : Here) (s : Spot) (m : Message) (e : Effect) (v : ℕ) (hn : h < n) (a : AtHome n h home s) (does : handle_by home.state n h h home m ≡ Some e) (bound : v + 1 ≤ n) where
+module _ (n h : ℕ) (home : Here) (s : Spot) (m : Message) (e : Effect) (v : ℕ) (hn : h < n) (a : AtHome n h home s)
+    (does : handle_by home.state n h h home m ≡ Some e) (bound : v + 1 ≤ n) where
   sharers_but : home.state ≡ HomeRo → members n home.sharers + 1 ≤ n
   sharers_but p = members_but n h home.sharers hn (go (home.sharers h) refl)
     where
@@ -40,9 +43,31 @@ module _ (n h : ℕ) (home : Here) (s : Spot) (m : Message) (e : Effect) (v : �
     where
       go : (k : Kind) → m.kind ≡ k → Paid n home m e v
       go RdFault q = record { handlers = grind arith; sends = grind arith }
-      go WrFault q = record { handlers = grind (arith, sharers_but p, inv_weight (weigh n) refl n home.sharers m.block h); sends = grind (arith, sharers_but p, inv_count n home.sharers m.block h, inv_price (price n) refl n home.sharers m.block h) }
+      go WrFault q = record {
+        handlers = grind (arith, sharers_but p, inv_weight (weigh n) refl n home.sharers m.block h);
+        sends = grind (
+          arith,
+          sharers_but p,
+          inv_count n home.sharers m.block h,
+          inv_price (price n) refl n home.sharers m.block h,
+        );
+      }
       go GetRo q = record { handlers = grind arith; sends = grind arith }
-      go GetRw q = record { handlers = grind (arith, others_but p, inv_weight (weigh n) refl n (without_node home.sharers m.from) m.block h); sends = grind (arith, others_but p, inv_count n (without_node home.sharers m.from) m.block h, inv_price (price n) refl n (without_node home.sharers m.from) m.block h) }
+      go GetRw q =
+          record {
+            handlers = grind (
+              arith,
+              others_but p,
+              inv_weight (weigh n) refl n
+                  (without_node home.sharers m.from) m.block h,
+            );
+            sends = grind (
+              arith,
+              others_but p,
+              inv_count n (without_node home.sharers m.from) m.block h,
+              inv_price (price n) refl n (without_node home.sharers m.from) m.block h,
+            );
+          }
       go k q = absurd (grind arith)
 
   paid_excl : home.state ≡ HomeExcl → Paid n home m e v

@@ -22,8 +22,26 @@ use Rattle.coherence_frame.proofs.First.{first_place, infos_first, line_first, n
 
 -- the home has it, a cache does not
 abbrev first_block : Bool → List ℕ → Block
-first_block true ws = record { state = HomeRw; rest = NoRest; left = 0; set = empty; owner = 0; acks = 0; tag = ReadWrite; words = ws }
-first_block false ws = record { state = CacheInv; rest = NoRest; left = 0; set = empty; owner = 0; acks = 0; tag = Invalid; words = ws }
+first_block true ws = record {
+  state = HomeRw;
+  rest = NoRest;
+  left = 0;
+  set = empty;
+  owner = 0;
+  acks = 0;
+  tag = ReadWrite;
+  words = ws;
+}
+first_block false ws = record {
+  state = CacheInv;
+  rest = NoRest;
+  left = 0;
+  set = empty;
+  owner = 0;
+  acks = 0;
+  tag = Invalid;
+  words = ws;
+}
 
 eight : length empty ≡ 8
 unfolding empty
@@ -62,8 +80,10 @@ read_open infos tag ws o = record {
 
 read_first : (i h b : ℕ) (home : Bool) (ws : List ℕ) → read (here_of i h b (first_block home ws)) ≡ first_block home ws
 unfolding read_open
-read_first i h b true ws = ap (read_open infos_first ReadWrite ws) (out-roll-StateVal (record { state = 0; args = []; cont = None }))
-read_first i h b false ws = ap (read_open infos_first Invalid ws) (out-roll-StateVal (record { state = 5; args = []; cont = None }))
+read_first i h b true ws = ap (read_open infos_first ReadWrite ws)
+    (out-roll-StateVal (record { state = 0; args = []; cont = None }))
+read_first i h b false ws = ap (read_open infos_first Invalid ws)
+    (out-roll-StateVal (record { state = 5; args = []; cont = None }))
 
 abbrev Left : Block → Type 0
 Left x = LeftFits x.state x.left

@@ -1,10 +1,14 @@
 -- Coherence under Stache_D: what it says of the home and its caches in words of its own, and the words that it has in common.
 use Rattle.std.specs.Prelude.{◌≡◌, ◌≢◌, ℕ, ◌+◌, ◌≤◌, true, false, List, [], ◌∷◌}
 use Rattle.tw_base.specs.Lists.{Each}
-use Rattle.block_spots.specs.Cases.{State, HomeRw, HomeRo, HomeExcl, HomeAcks, HomePut, CacheRo, CacheRw, CacheWaitRo, CacheWaitRw, Rest, NoRest, OfHome, OfLoad, OfRo, OfRw, OfCache, Here, members}
+use Rattle.block_spots.specs.Cases.{State, HomeRw, HomeRo, HomeExcl, HomeAcks, HomePut, CacheRo, CacheRw, CacheWaitRo}
+use Rattle.block_spots.specs.Cases.{CacheWaitRw, Rest, NoRest, OfHome, OfLoad, OfRo, OfRw, OfCache, Here, members}
 use Rattle.block_spots.specs.Notes.{Note, NRecallRo, NDataRw, NPutRo, Spot, gets_rw, held_ro, held_rw}
 use Rattle.block_spots.specs.Sketches.{Layout, Local, Next, Loads, Stores, Sketch}
-pub use Rattle.coherence_frame.specs.Words.{AllEligible, AllSentBy, Answers, Apart, Elsewhere, GivesBack, HasWords, InHomeRoOrAcks, IsAway, IsCacheNode, IsCacheState, IsFault, IsGet, IsHomeState, IsSettled, IsSharer, IsWaiting, NoSharers, OneRequest, Owns, allows_load, allows_store, current_in, own_rd, own_wr, owner_has, owner_words, tag_of}
+pub use Rattle.coherence_frame.specs.Words.{AllEligible, AllSentBy, Answers, Apart, Elsewhere, GivesBack, HasWords}
+pub use Rattle.coherence_frame.specs.Words.{InHomeRoOrAcks, IsAway, IsCacheNode, IsCacheState, IsFault, IsGet, IsHomeState}
+pub use Rattle.coherence_frame.specs.Words.{IsSettled, IsSharer, IsWaiting, NoSharers, OneRequest, Owns, allows_load}
+pub use Rattle.coherence_frame.specs.Words.{allows_store, current_in, own_rd, own_wr, owner_has, owner_words, tag_of}
 use Rattle.coherence_frame.specs.Coherent as frame
 use Rattle.coherence_frame.specs.Coherent.{Standing}
 

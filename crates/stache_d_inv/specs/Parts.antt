@@ -40,10 +40,19 @@ pub record IsPlaced (here : Place) : Type 0 where
 pub record Copies (n h : ℕ) (home : Here) (spots : ℕ → Spot) : Type 0 where
   pub held : EachCache n h (λ i. InHomeRoOrAcks home.state → (spots i).state ≡ CacheRo → (spots i).words ≡ home.words)
   pub coming : EachCache n h (λ i. InHomeRoOrAcks home.state → Each (HasWords home.words) (spots i).down)
-  pub answered : EachCache n h (λ i. home.state ≡ HomePut → (spots i).state ≡ CacheRo → Each (HasAnswered (spots i).words) (spots i).up)
+  pub answered : EachCache n h (λ i. home.state ≡ HomePut → (spots i).state ≡ CacheRo →
+      Each (HasAnswered (spots i).words) (spots i).up)
 
 abbrev pub wording : Wording
-wording = record { standing = standing; tree = stache_d; reads = reads; IsPlaced = IsPlaced; IsDown = IsDown; IsUp = IsUp; Copies = Copies }
+wording = record {
+  standing = standing;
+  tree = stache_d;
+  reads = reads;
+  IsPlaced = IsPlaced;
+  IsDown = IsDown;
+  IsUp = IsUp;
+  Copies = Copies;
+}
 
 -- ---- the parts of block b in state g
 

@@ -1,4 +1,5 @@
-//! Stache_D, a protocol that is shipped beside Stache: a recall for a reader leaves the owner a read-only copy. `stache_d` reads its text and checks it.
+//! Stache_D, a protocol that is shipped beside Stache: a recall for a reader leaves the owner a read-only copy. `stache_d`
+//! reads its text and checks it.
 #![tactic(auto)]
 
 mod laws;

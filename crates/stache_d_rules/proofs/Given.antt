@@ -13,7 +13,15 @@ all-told = refl
 
 head-is : IsGoodHead stache_d
 unfolding states_d is_name keyword_of
-head-is = record { profiles = inl refl; names = refl; few_states = omega arith; few_messages = omega arith; few_handlers = omega arith; few_infos = omega arith; few_message_args = refl }
+head-is = record {
+  profiles = inl refl;
+  names = refl;
+  few_states = omega arith;
+  few_messages = omega arith;
+  few_handlers = omega arith;
+  few_infos = omega arith;
+  few_message_args = refl;
+}
 
 pub tree-is : IsTree stache_d
 tree-is = tree-of stache_d told_d told_d-is all-told head-is

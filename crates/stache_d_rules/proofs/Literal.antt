@@ -1,7 +1,9 @@
 -- The literal tree of Stache_D breaks no rule: the lines of each rule, over plain data, are none.
 use Rattle.std.proofs.Common.{◌≡◌, ◌∙◌, [], refl}
 use Rattle.teapot_tree.specs.declared.rule.Rule.{Rule}
-use Rattle.teapot_tree.specs.declared.rule.Rule.TheVariants.{Undeclared, Twice, WrongType, ArgCount, NoDefault, ContDropped, ResumeNotLast, ResumeForeign, AfterSuspend, NoData, TooManySends, NotTwoStarts}
+use Rattle.teapot_tree.specs.declared.rule.Rule.TheVariants.{Undeclared, Twice, WrongType, ArgCount, NoDefault, ContDropped}
+use Rattle.teapot_tree.specs.declared.rule.Rule.TheVariants.{ResumeNotLast, ResumeForeign, AfterSuspend, NoData, TooManySends}
+use Rattle.teapot_tree.specs.declared.rule.Rule.TheVariants.{NotTwoStarts}
 use Rattle.teapot_rules.specs.Faults.{handler_lines, in_handlers, lines}
 use Rattle.stache_d_tree.specs.Tree.{stache_d, states_d}
 use Rattle.stache_rules.proofs.Literal.{IsFineOutside, all_told, handlers-told, none}
@@ -24,7 +26,17 @@ none-told NotTwoStarts = refl
 
 fine-outside : IsFineOutside stache_d
 unfolding states_d
-fine-outside = record { starts = refl; wrong = refl; messages = refl; infos = refl; states = refl; conts = refl; handlers = refl; defaults = refl; two = refl }
+fine-outside = record {
+  starts = refl;
+  wrong = refl;
+  messages = refl;
+  infos = refl;
+  states = refl;
+  conts = refl;
+  handlers = refl;
+  defaults = refl;
+  two = refl;
+}
 
 within-is : (r : Rule) → in_handlers (handler_lines r) stache_d ≡ []
 within-is r = handlers-told r stache_d told_d told_d-is ∙ none-told r

@@ -1,5 +1,5 @@
 -- A block's continuation has no lines.
-use Rattle.std.proofs.Common.{◌≡◌, ℕ, ap}
+use Rattle.std.proofs.Common.{ℕ, ap}
 use Rattle.stache_table.specs.Blocks.{Block, number_of}
 use Rattle.stache_table.proofs.Bares.{val-bare}
 use Rattle.stache_d_table.specs.Blocks.{BlockFits, IsBlock, here_of, later_in}

@@ -22,12 +22,22 @@ use Rattle.teapot_meaning.specs.declared.state.Here.{Here}
 use Rattle.teapot_meaning.specs.declared.state.Kept.TheVariants as real_kept
 use Rattle.teapot_meaning.specs.declared.state.StateVal.{out-StateVal}
 use Rattle.block_spots.specs.Cases as cases
-use Rattle.block_spots.specs.Cases.{HomeRw, HomeRo, HomeExcl, HomeAcks, HomePut, CacheInv, CacheRo, CacheRw, CacheWaitRo, CacheWaitRw, NoRest, OfHome, OfLoad, OfRo, OfRw, OfCache, Effect}
+use Rattle.block_spots.specs.Cases.{HomeRw, HomeRo, HomeExcl, HomeAcks, HomePut, CacheInv, CacheRo, CacheRw, CacheWaitRo}
+use Rattle.block_spots.specs.Cases.{CacheWaitRw, NoRest, OfHome, OfLoad, OfRo, OfRw, OfCache, Effect}
 use Rattle.block_spots.specs.Views.{Reads, int_of, state_numbered, value_at}
 use Rattle.stache_tree.specs.Code.{Code, Done}
-use Rattle.stache_tree.specs.Tree.{cache_inv, cache_inv_else, cache_inv_on_rd_fault, cache_inv_on_wr_fault, cache_ro, cache_ro_else, cache_ro_on_inv, cache_ro_on_wr_fault, cache_rw_else, cache_rw_on_recall, cache_wait_ro, cache_wait_ro_else, cache_wait_ro_on_data_ro, cache_wait_rw, cache_wait_rw_else, cache_wait_rw_on_data_rw, cache_wait_rw_on_inv, home_acks, home_acks_else, home_acks_on_ack, home_excl_else, home_excl_on_get_rw, home_excl_on_wr_fault, home_put_else, home_put_on_put, home_ro, home_ro_else, home_ro_on_get_ro, home_ro_on_get_rw, home_ro_on_rd_fault, home_ro_on_wr_fault, home_rw, home_rw_else, home_rw_on_get_ro, home_rw_on_get_rw}
-use Rattle.stache_d_tree.specs.Tree.{cache_rw_d, cache_rw_on_recall_ro, home_excl_d, home_excl_on_get_ro_d, home_excl_on_rd_fault_d, home_put_d, home_put_on_put_ro, stache_d}
-use Rattle.stache_table.specs.Blocks.{Block, Door, LeftFits, came_message, kept_of, left_of, number_of, saved_by, seen, seen_out, sender_in, serving, src, tag_at}
+use Rattle.stache_tree.specs.Tree.{cache_inv, cache_inv_else, cache_inv_on_rd_fault, cache_inv_on_wr_fault, cache_ro}
+use Rattle.stache_tree.specs.Tree.{cache_ro_else, cache_ro_on_inv, cache_ro_on_wr_fault, cache_rw_else, cache_rw_on_recall}
+use Rattle.stache_tree.specs.Tree.{cache_wait_ro, cache_wait_ro_else, cache_wait_ro_on_data_ro, cache_wait_rw}
+use Rattle.stache_tree.specs.Tree.{cache_wait_rw_else, cache_wait_rw_on_data_rw, cache_wait_rw_on_inv, home_acks}
+use Rattle.stache_tree.specs.Tree.{home_acks_else, home_acks_on_ack, home_excl_else, home_excl_on_get_rw, home_excl_on_wr_fault}
+use Rattle.stache_tree.specs.Tree.{home_put_else, home_put_on_put, home_ro, home_ro_else, home_ro_on_get_ro, home_ro_on_get_rw}
+use Rattle.stache_tree.specs.Tree.{home_ro_on_rd_fault, home_ro_on_wr_fault, home_rw, home_rw_else, home_rw_on_get_ro}
+use Rattle.stache_tree.specs.Tree.{home_rw_on_get_rw}
+use Rattle.stache_d_tree.specs.Tree.{cache_rw_d, cache_rw_on_recall_ro, home_excl_d, home_excl_on_get_ro_d}
+use Rattle.stache_d_tree.specs.Tree.{home_excl_on_rd_fault_d, home_put_d, home_put_on_put_ro, stache_d}
+use Rattle.stache_table.specs.Blocks.{Block, Door, LeftFits, came_message, kept_of, left_of, number_of, saved_by, seen}
+use Rattle.stache_table.specs.Blocks.{seen_out, sender_in, serving, src, tag_at}
 use Rattle.stache_table.specs.Runs.{Later, Run, here_in, over, play}
 use Rattle.stache_d_table.specs.Handling.{handle_in}
 

@@ -1,8 +1,11 @@
 -- Stache_D by cases: what a message does to a block. A recall for a read leaves the owner a copy; all else is as in Stache.
 use Rattle.std.specs.Prelude.{ℕ, true, false, List, [], ◌∷◌, Option, None}
 use Rattle.tw_base.specs.declared.value.Tag.TheVariants.{Invalid, ReadOnly}
-use Rattle.block_spots.specs.Cases.{Kind, RdFault, WrFault, GetRo, GetRw, DataRo, Put, Recall, RecallRo, PutRo, State, HomeRw, HomeRo, HomeExcl, HomeAcks, HomePut, CacheInv, CacheRo, CacheRw, CacheWaitRo, CacheWaitRw, Rest, NoRest, OfHome, OfLoad, OfRo, OfRw, Message, Here, Effect, Table, nobody, with_node}
-use Rattle.stache_table.specs.Handling.{carrying, plain, goes, defers, home_rw, home_ro, home_acks, recall, give_home, give_rw, cache_inv, cache_ro, cache_wait_ro, cache_wait_rw}
+use Rattle.block_spots.specs.Cases.{Kind, RdFault, WrFault, GetRo, GetRw, DataRo, Put, Recall, RecallRo, PutRo, State, HomeRw}
+use Rattle.block_spots.specs.Cases.{HomeRo, HomeExcl, HomeAcks, HomePut, CacheInv, CacheRo, CacheRw, CacheWaitRo, CacheWaitRw}
+use Rattle.block_spots.specs.Cases.{Rest, NoRest, OfHome, OfLoad, OfRo, OfRw, Message, Here, Effect, Table, nobody, with_node}
+use Rattle.stache_table.specs.Handling.{carrying, plain, goes, defers, home_rw, home_ro, home_acks, recall, give_home, give_rw}
+use Rattle.stache_table.specs.Handling.{cache_inv, cache_ro, cache_wait_ro, cache_wait_rw}
 
 -- a recall that leaves the owner a copy
 abbrev pub recall_ro : ℕ → Here → Message → Rest → Option Effect
@@ -18,13 +21,29 @@ home_excl me h m _ = None
 -- the home's own load goes on: the owner is a sharer
 abbrev pub share_home : Here → List ℕ → Option Effect
 share_home h ws =
-    goes (record { state = HomeRo; rest = NoRest; sharers = with_node nobody h.owner; owner = h.owner; acks = h.acks; tag = ReadOnly; words = ws })
+    goes (record {
+      state = HomeRo;
+      rest = NoRest;
+      sharers = with_node nobody h.owner;
+      owner = h.owner;
+      acks = h.acks;
+      tag = ReadOnly;
+      words = ws;
+    })
     [] true true
 
 -- a cache's read is answered: the owner and the asker are the sharers
 abbrev pub share_ro : ℕ → ℕ → ℕ → Here → List ℕ → Option Effect
 share_ro me b asker h ws =
-    goes (record { state = HomeRo; rest = NoRest; sharers = with_node (with_node nobody h.owner) asker; owner = h.owner; acks = h.acks; tag = ReadOnly; words = ws })
+    goes (record {
+      state = HomeRo;
+      rest = NoRest;
+      sharers = with_node (with_node nobody h.owner) asker;
+      owner = h.owner;
+      acks = h.acks;
+      tag = ReadOnly;
+      words = ws;
+    })
     (carrying DataRo b me asker ws ∷ []) true false
 
 -- the owner's words came back, by a PUT or a PUT_RO

@@ -23,7 +23,8 @@ pub record IsCome (m : Message) (here : Here) (k : cases.Kind) : Type 0 where
   pub from : IsOwn k m.from here.me
   pub carries : CarriesIf k m.payload
 
--- Among n nodes a message does to a block what the table says. At Home_RO the sharers are among the n nodes, at Home_Put the owner is.
+-- Among n nodes a message does to a block what the table says. At Home_RO the sharers are among the n nodes, at Home_Put the
+-- owner is.
 abbrev pub TableIsMeaning : Type 0
 TableIsMeaning =
     (p : Protocol) (here : Here) (x : Block) (m : Message) (k : cases.Kind) (e : Ended) (n : ℕ) →

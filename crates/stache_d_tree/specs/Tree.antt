@@ -1,5 +1,6 @@
--- The tree of Stache_D, with every line 0: what it changes of Stache, and all else as Stache has it. A recall for a reader is RECALL_RO; the owner
--- answers PUT_RO and keeps a read-only copy (in the literature, the owner is downgraded from Modified to Shared).
+-- The tree of Stache_D, with every line 0: what it changes of Stache, and all else as Stache has it. A recall for a reader is
+-- RECALL_RO; the owner answers PUT_RO and keeps a read-only copy (in the literature, the owner is downgraded from Modified to
+-- Shared).
 use Rattle.std.specs.Prelude.{◌≡◌, List, [], ◌∷◌, Some, None, true, false, codes}
 use Rattle.tw_base.specs.declared.message.Chan.TheVariants as chan
 use Rattle.tw_base.specs.declared.value.Tag.TheVariants.{Invalid, ReadOnly, ReadWrite}
@@ -9,8 +10,11 @@ use Rattle.teapot_tree.specs.declared.protocol.Protocol.{Protocol}
 use Rattle.teapot_tree.specs.declared.protocol.State.{State}
 use Rattle.teapot_tree.specs.declared.protocol.Trigger.TheVariants.{RdFault, WrFault, Named, Default}
 use Rattle.teapot_tree.specs.declared.protocol.ValType.TheVariants as ty
-use Rattle.stache_tree.specs.Code.{Code, Done, Assign, Send, SetTag, SetState, Suspend, Resume, Install, WakeUp, Src, Var, One, Two}
-use Rattle.stache_tree.specs.Tree.{message, starts_in, info, on, state, cache_inv, cache_ro, cache_rw_else, cache_rw_on_recall, cache_wait_ro, cache_wait_rw, home_acks, home_excl_else, home_excl_on_get_rw, home_excl_on_wr_fault, home_put_else, home_put_on_put, home_ro, home_rw}
+use Rattle.stache_tree.specs.Code.{Code, Done, Assign, Send, SetTag, SetState, Suspend, Resume, Install, WakeUp, Src, Var, One}
+use Rattle.stache_tree.specs.Code.{Two}
+use Rattle.stache_tree.specs.Tree.{message, starts_in, info, on, state, cache_inv, cache_ro, cache_rw_else, cache_rw_on_recall}
+use Rattle.stache_tree.specs.Tree.{cache_wait_ro, cache_wait_rw, home_acks, home_excl_else, home_excl_on_get_rw}
+use Rattle.stache_tree.specs.Tree.{home_excl_on_wr_fault, home_put_else, home_put_on_put, home_ro, home_rw}
 
 -- the home reads: the owner stays a sharer
 abbrev pub home_excl_on_rd_fault_d : Code
@@ -50,7 +54,8 @@ cache_rw_d =
 
 unfoldable pub states_d : List State
 states_d =
-    home_rw ∷ home_ro ∷ home_excl_d ∷ home_acks ∷ home_put_d ∷ cache_inv ∷ cache_ro ∷ cache_rw_d ∷ cache_wait_ro ∷ cache_wait_rw ∷ []
+    home_rw ∷ home_ro ∷ home_excl_d ∷ home_acks ∷ home_put_d ∷ cache_inv ∷ cache_ro ∷ cache_rw_d ∷ cache_wait_ro ∷
+    cache_wait_rw ∷ []
 
 abbrev pub stache_d : Protocol
 stache_d = record {
@@ -58,8 +63,10 @@ stache_d = record {
   profile = 1;
   line = 0;
   messages =
-      message (codes "GET_RO") chan.Zero false ∷ message (codes "GET_RW") chan.Zero false ∷ message (codes "DATA_RO") chan.One true ∷ message (codes "DATA_RW") chan.One true
-      ∷ message (codes "PUT") chan.One true ∷ message (codes "INV") chan.One false ∷ message (codes "ACK") chan.One false ∷ message (codes "RECALL") chan.One false
+      message (codes "GET_RO") chan.Zero false ∷ message (codes "GET_RW") chan.Zero false ∷ message
+      (codes "DATA_RO") chan.One true ∷ message (codes "DATA_RW") chan.One true
+      ∷ message (codes "PUT") chan.One true ∷ message (codes "INV") chan.One false ∷ message
+      (codes "ACK") chan.One false ∷ message (codes "RECALL") chan.One false
       ∷ message (codes "RECALL_RO") chan.One false ∷ message (codes "PUT_RO") chan.One true ∷ [];
   infos = info (codes "sharers") ty.Set ∷ info (codes "owner") ty.Node ∷ info (codes "acks") ty.Int ∷ [];
   starts = starts_in true (codes "Home_RW") ReadWrite ∷ starts_in false (codes "Cache_Inv") Invalid ∷ [];

@@ -1,8 +1,11 @@
 -- The turn of a home at an ACK or a PUT, and at a fault of its own.
-use Rattle.std.proofs.Common.{◌≡◌, ◌≢◌, ℕ, ◌+◌, ◌-◌, ◌<◌, ◌≤◌, Bool, true, false, List, [], ◌∷◌, ◌++◌, Some, arith, refl, sym, ap, ◌∙◌, inl, inr, ◌⊎◌}
+use Rattle.std.proofs.Common.{◌≡◌, ◌≢◌, ℕ, ◌+◌, ◌-◌, ◌<◌, ◌≤◌, Bool, true, false, List, [], ◌∷◌, ◌++◌, Some, arith, refl, sym}
+use Rattle.std.proofs.Common.{ap, ◌∙◌, inl, inr, ◌⊎◌}
 use Rattle.std.proofs.lemmas.Bool.{cases_lt}
 use Rattle.std.proofs.lemmas.Bool.Decides.{nat_tests}
-use Rattle.block_spots.specs.Cases.{RdFault, WrFault, DataRo, DataRw, Put, Ack, Recall, State, HomeRw, HomeRo, HomeExcl, HomeAcks, HomePut, Rest, NoRest, OfHome, OfRo, OfRw, Message, Here, No, Stale, Effect, nobody, with_node, members}
+use Rattle.block_spots.specs.Cases.{RdFault, WrFault, DataRo, DataRw, Put, Ack, Recall, State, HomeRw, HomeRo, HomeExcl}
+use Rattle.block_spots.specs.Cases.{HomeAcks, HomePut, Rest, NoRest, OfHome, OfRo, OfRw, Message, Here, No, Stale, Effect}
+use Rattle.block_spots.specs.Cases.{nobody, with_node, members}
 use Rattle.block_spots.specs.Notes.{NAck, NPut, Spot, note, is_rd_fault, is_wr_fault, held_home}
 use Rattle.stache_l_inv.specs.Coherent.{AtCache, AtBlock, IsFault}
 use Rattle.stache_l_table.specs.Handling.{handle_by}
@@ -15,39 +18,87 @@ use Rattle.stache_l_inv.proofs.Blocks.{row_11, row_12, row_13, row_shared, row_1
 use Rattle.coherence_frame.proofs.Views.{sent, sent_nil, sent_one, sent_one_past, sent_inv_all, inv_if}
 use Rattle.coherence_frame.proofs.Turning.{stays, AnswerTurn, OwnTurn, kept_if, only_sender, and_asker}
 
-module _ (n h i : ℕ) (cur : List ℕ) (home : Here) (m : Message) (e : Effect) (spots spots2 : ℕ → Spot) (a : AtBlock n h cur home spots) (l : i < n) (d : i ≢ h) (does : handle_by home.state n h h home m ≡ Some e) (t : AnswerTurn h i m e spots spots2) where
-  is_ack_more : home.state ≡ HomeAcks → m.kind ≡ Ack → 1 < home.acks → e ≡ record { here = record home { acks = home.acks - 1 }; sends = []; kept = No; freed = false; woke = false }
+module _ (n h i : ℕ) (cur : List ℕ) (home : Here) (m : Message) (e : Effect) (spots spots2 : ℕ → Spot)
+    (a : AtBlock n h cur home spots) (l : i < n) (d : i ≢ h) (does : handle_by home.state n h h home m ≡ Some e)
+    (t : AnswerTurn h i m e spots spots2) where
+  is_ack_more : home.state ≡ HomeAcks → m.kind ≡ Ack → 1 < home.acks →
+      e ≡ record { here = record home { acks = home.acks - 1 }; sends = []; kept = No; freed = false; woke = false }
   is_ack_more p k o = grind (arith, nat_tests)
 
   is_ack_home : home.state ≡ HomeAcks → m.kind ≡ Ack → home.acks < 2 → home.rest ≡ OfHome →
-      e ≡ record { here = record home { state = HomeRw; rest = NoRest; acks = 0; tag = ReadWrite }; sends = []; kept = No; freed = true; woke = true }
+      e ≡ record {
+        here = record home { state = HomeRw; rest = NoRest; acks = 0; tag = ReadWrite };
+        sends = [];
+        kept = No;
+        freed = true;
+        woke = true;
+      }
   is_ack_home p k o r = grind (arith, nat_tests)
 
   is_ack_rw : (b : ℕ) → home.state ≡ HomeAcks → m.kind ≡ Ack → home.acks < 2 → home.rest ≡ OfRw b →
-      e ≡ record { here = record home { state = HomeExcl; rest = NoRest; owner = b; acks = 0; tag = Invalid }; sends = carrying DataRw m.block h b home.words ∷ []; kept = No; freed = true; woke = false }
+      e ≡ record {
+        here = record home { state = HomeExcl; rest = NoRest; owner = b; acks = 0; tag = Invalid };
+        sends = carrying DataRw m.block h b home.words ∷ [];
+        kept = No;
+        freed = true;
+        woke = false;
+      }
   is_ack_rw b p k o r = grind (arith, nat_tests)
 
   is_ack_ro : (b : ℕ) → home.state ≡ HomeAcks → m.kind ≡ Ack → home.acks < 2 → home.rest ≡ OfRo b →
-      e ≡ record { here = record home { state = HomeRo; rest = NoRest; sharers = with_node home.sharers b; acks = 0 }; sends = carrying DataRo m.block h b home.words ∷ []; kept = No; freed = true; woke = false }
+      e ≡ record {
+        here = record home { state = HomeRo; rest = NoRest; sharers = with_node home.sharers b; acks = 0 };
+        sends = carrying DataRo m.block h b home.words ∷ [];
+        kept = No;
+        freed = true;
+        woke = false;
+      }
   is_ack_ro b p k o r = grind (arith, nat_tests)
 
   is_put_home : home.state ≡ HomePut → m.kind ≡ Put → home.rest ≡ OfHome →
-      e ≡ record { here = record home { state = HomeRw; rest = NoRest; tag = ReadWrite; words = m.payload }; sends = []; kept = No; freed = true; woke = true }
+      e ≡ record {
+        here = record home { state = HomeRw; rest = NoRest; tag = ReadWrite; words = m.payload };
+        sends = [];
+        kept = No;
+        freed = true;
+        woke = true;
+      }
   is_put_home p k r = grind (arith, nat_tests)
 
   is_put_ro : (b : ℕ) → home.state ≡ HomePut → m.kind ≡ Put → home.rest ≡ OfRo b →
-      e ≡ record { here = record home { state = HomeRo; rest = NoRest; sharers = with_node nobody b; tag = ReadOnly; words = m.payload }; sends = carrying DataRo m.block h b m.payload ∷ []; kept = No; freed = true; woke = false }
+      e ≡ record {
+        here = record home {
+          state = HomeRo;
+          rest = NoRest;
+          sharers = with_node nobody b;
+          tag = ReadOnly;
+          words = m.payload;
+        };
+        sends = carrying DataRo m.block h b m.payload ∷ [];
+        kept = No;
+        freed = true;
+        woke = false;
+      }
   is_put_ro b p k r = grind (arith, nat_tests)
 
   is_put_rw : (b : ℕ) → home.state ≡ HomePut → m.kind ≡ Put → home.rest ≡ OfRw b →
-      e ≡ record { here = record home { state = HomeExcl; rest = NoRest; owner = b; tag = Invalid; words = m.payload }; sends = carrying DataRw m.block h b m.payload ∷ []; kept = No; freed = true; woke = false }
+      e ≡ record {
+        here = record home { state = HomeExcl; rest = NoRest; owner = b; tag = Invalid; words = m.payload };
+        sends = carrying DataRw m.block h b m.payload ∷ [];
+        kept = No;
+        freed = true;
+        woke = false;
+      }
   is_put_rw b p k r = grind (arith, nat_tests)
 
   -- the sender of an answer is not the asker
-  sender_no_asker : (b : ℕ) → (home.state ≡ HomeAcks) × (home.rest ≡ OfRw b) ⊎ (home.state ≡ HomePut) × (home.rest ≡ OfRo b) ⊎ (home.state ≡ HomePut) × (home.rest ≡ OfRw b) → i ≢ b
-  sender_no_asker b w x = let c : AtCache n h home i (spots i) = a.caches i l d in let u : (spots i).up ≡ note m ∷ t.rest = t.came in go w c u
+  sender_no_asker : (b : ℕ) → (home.state ≡ HomeAcks) × (home.rest ≡ OfRw b) ⊎ (home.state ≡ HomePut) × (home.rest ≡ OfRo b)
+      ⊎ (home.state ≡ HomePut) × (home.rest ≡ OfRw b) → i ≢ b
+  sender_no_asker b w x = let c : AtCache n h home i (spots i) = a.caches i l d in let u : (spots i).up ≡ note m ∷ t.rest =
+      t.came in go w c u
     where
-      go : (home.state ≡ HomeAcks) × (home.rest ≡ OfRw b) ⊎ (home.state ≡ HomePut) × (home.rest ≡ OfRo b) ⊎ (home.state ≡ HomePut) × (home.rest ≡ OfRw b) → AtCache n h home i (spots i) → (spots i).up ≡ note m ∷ t.rest → ⊥
+      go : (home.state ≡ HomeAcks) × (home.rest ≡ OfRw b) ⊎ (home.state ≡ HomePut) × (home.rest ≡ OfRo b)
+          ⊎ (home.state ≡ HomePut) × (home.rest ≡ OfRw b) → AtCache n h home i (spots i) → (spots i).up ≡ note m ∷ t.rest → ⊥
       go w c u = grind (arith, nat_tests)
 
   came_ack : m.kind ≡ Ack → (spots i).up ≡ NAck ∷ t.rest
@@ -74,14 +125,18 @@ module _ (n h i : ℕ) (cur : List ℕ) (home : Here) (m : Message) (e : Effect)
           let q = is_ack_ro b p k o r in
           let nb : (b < n) × (b ≢ h) = grind arith in
           let ib : i ≢ b = (answers_no_sharer n h home home i (spots i) (spots i) (a.caches i l d) b t.rest p r (came_ack k)).1 in
-          let w = and_asker h i m e spots spots2 t (carrying DataRo m.block h b home.words) (ap (λ z. z.kept) q) (ap (λ z. z.sends) q) refl refl nb.1 refl in
-          row_shared n h cur home e.here spots spots2 a i b l d nb.0 nb.1 t.own w.0 (w.2 ib) t.rest p r (ap (λ z. z.here) q) (came_ack k) w.1
+          let w = and_asker h i m e spots spots2 t (carrying DataRo m.block h b home.words) (ap (λ z. z.kept) q)
+          (ap (λ z. z.sends) q) refl refl nb.1 refl in
+          row_shared n h cur home e.here spots spots2 a i b l d nb.0 nb.1 t.own w.0 (w.2 ib) t.rest p r (ap (λ z. z.here) q)
+          (came_ack k) w.1
       go (OfRw b) r o =
           let q = is_ack_rw b p k o r in
           let nb : (b < n) × (b ≢ h) = grind arith in
           let ib : i ≢ b = sender_no_asker b (inl (p, r)) in
-          let w = and_asker h i m e spots spots2 t (carrying DataRw m.block h b home.words) (ap (λ z. z.kept) q) (ap (λ z. z.sends) q) refl refl nb.1 refl in
-          row_13 n h cur home e.here spots spots2 a i b l d nb.0 nb.1 t.own w.0 (w.2 ib) t.rest p o r (ap (λ z. z.here) q) (came_ack k) w.1
+          let w = and_asker h i m e spots spots2 t (carrying DataRw m.block h b home.words) (ap (λ z. z.kept) q)
+          (ap (λ z. z.sends) q) refl refl nb.1 refl in
+          row_13 n h cur home e.here spots spots2 a i b l d nb.0 nb.1 t.own w.0 (w.2 ib) t.rest p o r (ap (λ z. z.here) q)
+          (came_ack k) w.1
       go _ r o = absurd (grind arith)
 
   put_turn : home.state ≡ HomePut → m.kind ≡ Put → AtBlock n h cur e.here spots2
@@ -96,38 +151,60 @@ module _ (n h i : ℕ) (cur : List ℕ) (home : Here) (m : Message) (e : Effect)
           let q = is_put_ro b p k r in
           let nb : (b < n) × (b ≢ h) = grind arith in
           let ib : i ≢ b = sender_no_asker b (inr (inl (p, r))) in
-          let w = and_asker h i m e spots spots2 t (carrying DataRo m.block h b m.payload) (ap (λ z. z.kept) q) (ap (λ z. z.sends) q) refl refl nb.1 refl in
-          row_16 n h cur home e.here spots spots2 a i b l d nb.0 nb.1 ib t.own w.0 m.payload t.rest p r (ap (λ z. z.here) q) (w.2 ib) (came_put k) (w.1 ib)
+          let w = and_asker h i m e spots spots2 t (carrying DataRo m.block h b m.payload) (ap (λ z. z.kept) q)
+          (ap (λ z. z.sends) q) refl refl nb.1 refl in
+          row_16 n h cur home e.here spots spots2 a i b l d nb.0 nb.1 ib t.own w.0 m.payload t.rest p r (ap (λ z. z.here) q)
+          (w.2 ib) (came_put k) (w.1 ib)
       go (OfRw b) r =
           let q = is_put_rw b p k r in
           let nb : (b < n) × (b ≢ h) = grind arith in
           let ib : i ≢ b = sender_no_asker b (inr (inr (p, r))) in
-          let w = and_asker h i m e spots spots2 t (carrying DataRw m.block h b m.payload) (ap (λ z. z.kept) q) (ap (λ z. z.sends) q) refl refl nb.1 refl in
-          row_17 n h cur home e.here spots spots2 a i b l d nb.0 nb.1 ib t.own w.0 m.payload t.rest p r (ap (λ z. z.here) q) (w.2 ib) (came_put k) (w.1 ib)
+          let w = and_asker h i m e spots spots2 t (carrying DataRw m.block h b m.payload) (ap (λ z. z.kept) q)
+          (ap (λ z. z.sends) q) refl refl nb.1 refl in
+          row_17 n h cur home e.here spots spots2 a i b l d nb.0 nb.1 ib t.own w.0 m.payload t.rest p r (ap (λ z. z.here) q)
+          (w.2 ib) (came_put k) (w.1 ib)
       go _ r = absurd (grind arith)
 
   pub answer_turn : AtBlock n h cur e.here spots2
-  answer_turn = elim (waited_for n h home i (spots i) m t.rest (a.caches i l d) t.came) [ inl w ↦ acks_turn w.0 w.1 | inr w ↦ put_turn w.0 w.1 ]
+  answer_turn = elim (waited_for n h home i (spots i) m t.rest (a.caches i l d) t.came)
+      [ inl w ↦ acks_turn w.0 w.1 | inr w ↦ put_turn w.0 w.1 ]
 
-module _ (n h : ℕ) (cur : List ℕ) (home : Here) (m : Message) (e : Effect) (spots spots2 : ℕ → Spot) (a : AtBlock n h cur home spots) (does : handle_by home.state n h h home m ≡ Some e) (t : OwnTurn h home m e spots spots2) where
+module _ (n h : ℕ) (cur : List ℕ) (home : Here) (m : Message) (e : Effect) (spots spots2 : ℕ → Spot)
+    (a : AtBlock n h cur home spots) (does : handle_by home.state n h h home m ≡ Some e)
+    (t : OwnTurn h home m e spots spots2) where
   none_to : e.sends ≡ [] → (j : ℕ) → j ≢ h → spots2 j ≡ spots j
   none_to p j u = stays (spots j) (spots2 j) _ (t.others j u) (ap (λ z. sent m.block z h j One) p ∙ sent_nil m.block h j One)
 
-  is_ro_rd : home.state ≡ HomeRo → m.kind ≡ RdFault → e ≡ record { here = home; sends = []; kept = No; freed = false; woke = true }
+  is_ro_rd : home.state ≡ HomeRo → m.kind ≡ RdFault → e ≡ record
+      { here = home; sends = []; kept = No; freed = false; woke = true }
   is_ro_rd p k = grind arith
 
   is_ro_wr : home.state ≡ HomeRo → m.kind ≡ WrFault →
-      e ≡ record { here = record home { state = HomeAcks; rest = OfHome; sharers = nobody; acks = members n home.sharers }; sends = inv_all n home.sharers m.block h; kept = No; freed = false; woke = false }
+      e ≡ record {
+        here = record home { state = HomeAcks; rest = OfHome; sharers = nobody; acks = members n home.sharers };
+        sends = inv_all n home.sharers m.block h;
+        kept = No;
+        freed = false;
+        woke = false;
+      }
   is_ro_wr p k = grind arith
 
   is_excl : home.state ≡ HomeExcl → (m.kind ≡ RdFault) ⊎ (m.kind ≡ WrFault) →
-      e ≡ record { here = record home { state = HomePut; rest = OfHome }; sends = plain Recall m.block h home.owner ∷ []; kept = No; freed = false; woke = false }
+      e ≡ record {
+        here = record home { state = HomePut; rest = OfHome };
+        sends = plain Recall m.block h home.owner ∷ [];
+        kept = No;
+        freed = false;
+        woke = false;
+      }
   is_excl p k = grind arith
 
-  is_kept : (home.state ≡ HomeAcks) ⊎ (home.state ≡ HomePut) → (m.kind ≡ RdFault) ⊎ (m.kind ≡ WrFault) → e ≡ record { here = home; sends = []; kept = Stale; freed = false; woke = false }
+  is_kept : (home.state ≡ HomeAcks) ⊎ (home.state ≡ HomePut) → (m.kind ≡ RdFault) ⊎ (m.kind ≡ WrFault) →
+      e ≡ record { here = home; sends = []; kept = Stale; freed = false; woke = false }
   is_kept p k = grind arith
 
-  own_kept : (home.state ≡ HomeAcks) ⊎ (home.state ≡ HomePut) → (m.kind ≡ RdFault) ⊎ (m.kind ≡ WrFault) → AtBlock n h cur e.here spots2
+  own_kept : (home.state ≡ HomeAcks) ⊎ (home.state ≡ HomePut) → (m.kind ≡ RdFault) ⊎ (m.kind ≡ WrFault) →
+      AtBlock n h cur e.here spots2
   own_kept p k =
       let q = is_kept p k in
       let kept : (spots2 h).kept ≡ note m ∷ [] = t.kept ∙ ap (λ z. kept_if z.kept (note m)) q in
@@ -137,7 +214,8 @@ module _ (n h : ℕ) (cur : List ℕ) (home : Here) (m : Message) (e : Effect) (
       each : (m.kind ≡ RdFault) ⊎ (m.kind ≡ WrFault) → (spots2 h).kept ≡ note m ∷ [] → Each IsFault (spots2 h).kept
       each k kept = grind arith
 
-      one : (m.kind ≡ RdFault) ⊎ (m.kind ≡ WrFault) → (spots2 h).kept ≡ note m ∷ [] → how_many is_rd_fault (spots2 h).kept + how_many is_wr_fault (spots2 h).kept + held_home home.rest ≤ 1
+      one : (m.kind ≡ RdFault) ⊎ (m.kind ≡ WrFault) → (spots2 h).kept ≡ note m ∷ [] →
+          how_many is_rd_fault (spots2 h).kept + how_many is_wr_fault (spots2 h).kept + held_home home.rest ≤ 1
       one k kept = let u : held_home home.rest ≡ 0 = t.unheld in grind arith
 
   own_rd : home.state ≡ HomeRo → m.kind ≡ RdFault → AtBlock n h cur e.here spots2
@@ -145,7 +223,8 @@ module _ (n h : ℕ) (cur : List ℕ) (home : Here) (m : Message) (e : Effect) (
       let q = is_ro_rd p k in
       let kept : (spots2 h).kept ≡ [] = t.kept ∙ ap (λ z. kept_if z.kept (note m)) q in
       let u : held_home home.rest ≡ 0 = t.unheld in
-      row_own n h cur home e.here spots spots2 a (ap (λ z. z.here) q) (none_to (ap (λ z. z.sends) q)) t.ask t.down t.up (grind arith) (grind arith) (λ x. kept)
+      row_own n h cur home e.here spots spots2 a (ap (λ z. z.here) q) (none_to (ap (λ z. z.sends) q)) t.ask t.down t.up
+      (grind arith) (grind arith) (λ x. kept)
 
   own_wr : home.state ≡ HomeRo → m.kind ≡ WrFault → AtBlock n h cur e.here spots2
   own_wr p k =
@@ -154,7 +233,13 @@ module _ (n h : ℕ) (cur : List ℕ) (home : Here) (m : Message) (e : Effect) (
       (λ j lj dj x. stays (spots j) (spots2 j) _ (t.others j dj) (to j false lj x))
       p (ap (λ z. z.here) q)
     where
-      q : e ≡ record { here = record home { state = HomeAcks; rest = OfHome; sharers = nobody; acks = members n home.sharers }; sends = inv_all n home.sharers m.block h; kept = No; freed = false; woke = false }
+      q : e ≡ record {
+        here = record home { state = HomeAcks; rest = OfHome; sharers = nobody; acks = members n home.sharers };
+        sends = inv_all n home.sharers m.block h;
+        kept = No;
+        freed = false;
+        woke = false;
+      }
       q = is_ro_wr p k
 
       to : (j : ℕ) (x : Bool) → j < n → home.sharers j ≡ x → sent m.block e.sends h j One ≡ inv_if x
@@ -163,11 +248,19 @@ module _ (n h : ℕ) (cur : List ℕ) (home : Here) (m : Message) (e : Effect) (
   own_excl : home.state ≡ HomeExcl → (m.kind ≡ RdFault) ⊎ (m.kind ≡ WrFault) → AtBlock n h cur e.here spots2
   own_excl p k =
       row_78 n h cur home e.here spots spots2 a t.ask t.down t.up (t.kept ∙ ap (λ z. kept_if z.kept (note m)) q)
-      (t.others home.owner oh ∙ ap (λ z. record (spots home.owner) { down = (spots home.owner).down ++ z }) (ap (λ z. sent m.block z.sends h home.owner One) q ∙ sent_one m.block h home.owner One _ refl refl refl refl))
-      (λ j jh jo. stays (spots j) (spots2 j) _ (t.others j jh) (ap (λ z. sent m.block z.sends h j One) q ∙ sent_one_past m.block h j One _ (λ y. jo (sym y))))
+      (t.others home.owner oh ∙ ap (λ z. record (spots home.owner) { down = (spots home.owner).down ++ z })
+      (ap (λ z. sent m.block z.sends h home.owner One) q ∙ sent_one m.block h home.owner One _ refl refl refl refl))
+      (λ j jh jo. stays (spots j) (spots2 j) _ (t.others j jh)
+      (ap (λ z. sent m.block z.sends h j One) q ∙ sent_one_past m.block h j One _ (λ y. jo (sym y))))
       p (ap (λ z. z.here) q)
     where
-      q : e ≡ record { here = record home { state = HomePut; rest = OfHome }; sends = plain Recall m.block h home.owner ∷ []; kept = No; freed = false; woke = false }
+      q : e ≡ record {
+        here = record home { state = HomePut; rest = OfHome };
+        sends = plain Recall m.block h home.owner ∷ [];
+        kept = No;
+        freed = false;
+        woke = false;
+      }
       q = is_excl p k
 
       oh : home.owner ≢ h

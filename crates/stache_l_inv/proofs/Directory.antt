@@ -10,7 +10,12 @@ use Rattle.stache_l_table.specs.Handling.{greatest}
 -- one sharer more
 pub with_more : (n : ℕ) (s : ℕ → Bool) (i : ℕ) → i < n → s i ≡ false → members n (with_node s i) ≡ members n s + 1
 unfolding members
-with_more n s i l e = omega (arith, sum_below_one n (λ k. one_if (with_node s i k)) (λ k. one_if (s k)) i l other, here, ap one_if e)
+with_more n s i l e = omega (
+  arith,
+  sum_below_one n (λ k. one_if (with_node s i k)) (λ k. one_if (s k)) i l other,
+  here,
+  ap one_if e,
+)
   where
     other : (j : ℕ) → j < n → j ≢ i → one_if (with_node s i j) ≡ one_if (s j)
     other j lj d = grind (arith, nat_tests)
@@ -31,7 +36,12 @@ with_at_most n s i l = omega (arith, sum_below_one n (λ k. one_if (with_node s 
 -- one sharer fewer
 pub without_less : (n : ℕ) (s : ℕ → Bool) (k : ℕ) → k < n → s k ≡ true → members n (without_node s k) + 1 ≡ members n s
 unfolding members
-without_less n s k l e = omega (arith, sum_below_one n (λ j. one_if (without_node s k j)) (λ j. one_if (s j)) k l other, here, ap one_if e)
+without_less n s k l e = omega (
+  arith,
+  sum_below_one n (λ j. one_if (without_node s k j)) (λ j. one_if (s j)) k l other,
+  here,
+  ap one_if e,
+)
   where
     other : (j : ℕ) → j < n → j ≢ k → one_if (without_node s k j) ≡ one_if (s j)
     other j lj d = grind (arith, nat_tests)
@@ -63,7 +73,8 @@ unfolding members
 greatest_has zero s m = absurd (omega (arith, m))
 greatest_has (suc n) s m = by_test (greatest_has n s) (s n) refl
   where
-    by_test : (1 ≤ members n s → (greatest n s < n) × (s (greatest n s) ≡ true)) → (t : Bool) → s n ≡ t → ((if t then n else greatest n s) < suc n) × (s (if t then n else greatest n s) ≡ true)
+    by_test : (1 ≤ members n s → (greatest n s < n) × (s (greatest n s) ≡ true)) → (t : Bool) → s n ≡ t →
+        ((if t then n else greatest n s) < suc n) × (s (if t then n else greatest n s) ≡ true)
     by_test below true y = (omega arith, y)
     by_test below false y =
         let before = below (omega (arith, m, ap one_if y)) in

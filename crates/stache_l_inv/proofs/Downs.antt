@@ -7,7 +7,8 @@ use Rattle.stache_l_inv.specs.Coherent.{AtCache}
 use Rattle.coherence_inv.specs.Parts.{IsDown, IsUp}
 use Rattle.coherence_frame.proofs.Scheme.{HasLength}
 
-pub down_is : (w n h : ℕ) (home : Here) (i : ℕ) (sp : Spot) → AtCache n h home i sp → Each (HasLength w) sp.down → Each (IsDown w) sp.down
+pub down_is : (w n h : ℕ) (home : Here) (i : ℕ) (sp : Spot) → AtCache n h home i sp → Each (HasLength w) sp.down →
+    Each (IsDown w) sp.down
 down_is w n h home i sp a long = go home.state refl
   where
     in_acks : home.state ≡ HomeAcks → (r : Rest) → home.rest ≡ r → (b : Bool) → home.sharers i ≡ b → Each (IsDown w) sp.down

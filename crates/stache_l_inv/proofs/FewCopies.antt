@@ -45,13 +45,23 @@ module _ (n h : ℕ) (cur : List ℕ) (home : Here) (spots : ℕ → Spot) (a : 
   counted i = if nat_eq i h then 0 else is_copy (spots i).tag
 
   beside : (k : ℕ → ℕ) → ((i : ℕ) → i < n → i ≢ h → is_copy (spots i).tag ≤ k i) → (i : ℕ) → i < n → counted i ≤ k i
-  beside k f i l = elim (cases_eq i h) [ inl e ↦ grind (arith, nat_tests) | inr d ↦ (let g : is_copy (spots i).tag ≤ k i = f i l d in grind (arith, nat_tests)) ]
+  beside k f i l =
+      elim (cases_eq i h) [
+        | inl e ↦ grind (arith, nat_tests)
+        | inr d ↦
+            (let g : is_copy (spots i).tag ≤ k i = f i l d in grind (arith, nat_tests))
+      ]
 
   while_shared : home.state ≡ HomeRo → sum_below n counted ≤ 2
   unfolding members
   while_shared p =
       let few : members n home.sharers ≤ 2 = grind arith in
-      omega (arith, sum_below_le n counted (λ i. one_if (home.sharers i)) (beside (λ i. one_if (home.sharers i)) (λ i l d. (shared n h home i (spots i) (a.caches i l d) p).0)), few)
+      omega (
+        arith,
+        sum_below_le n counted (λ i. one_if (home.sharers i))
+            (beside (λ i. one_if (home.sharers i)) (λ i l d. (shared n h home i (spots i) (a.caches i l d) p).0)),
+        few,
+      )
 
   -- the sharers that stay, and the acknowledgements to come, are two
   two_in_acks : home.state ≡ HomeAcks → members n home.sharers + home.acks ≤ 2
@@ -72,14 +82,22 @@ module _ (n h : ℕ) (cur : List ℕ) (home : Here) (spots : ℕ → Spot) (a : 
   while_asked p =
       omega (
         arith,
-        sum_below_le n counted (λ i. one_if (home.sharers i) + owes (spots i)) (beside (λ i. one_if (home.sharers i) + owes (spots i)) (λ i l d. owed n h home i (spots i) (a.caches i l d) p)),
-        sum_below_add n (λ i. one_if (home.sharers i) + owes (spots i)) (λ i. one_if (home.sharers i)) (λ i. owes (spots i)) (λ i l. refl),
+        sum_below_le n counted (λ i. one_if (home.sharers i) + owes (spots i))
+            (beside (λ i. one_if (home.sharers i) + owes (spots i)) (λ i l d. owed n h home i (spots i) (a.caches i l d) p)),
+        sum_below_add n (λ i. one_if (home.sharers i) + owes (spots i)) (λ i. one_if (home.sharers i)) (λ i. owes (spots i))
+            (λ i l. refl),
         two_in_acks p,
         a.acks p,
       )
 
   while_none : (home.state ≡ HomeRw) ⊎ (home.state ≡ HomeExcl) ⊎ (home.state ≡ HomePut) → sum_below n counted ≤ 2
-  while_none p = omega (arith, sum_below_le n counted (λ i. 0) (beside (λ i. 0) (λ i l d. omega (arith, no_copy n h home i (spots i) (a.caches i l d) p))), sum_below_const n 0)
+  while_none p =
+      omega (
+        arith,
+        sum_below_le n counted (λ i. 0) (beside (λ i. 0)
+            (λ i l d. omega (arith, no_copy n h home i (spots i) (a.caches i l d) p))),
+        sum_below_const n 0,
+      )
 
   pub few_copies : copies n h (λ i. (spots i).tag) ≤ 2
   unfolding copies
@@ -96,4 +114,5 @@ module _ (n h : ℕ) (cur : List ℕ) (home : Here) (spots : ℕ → Spot) (a : 
 pub copies_are_few : CopiesAreFew
 unfolding spot_at
 copies_are_few s g m b setup kept lb =
-    few_copies s.shape.nodes (home_of s b) _ (home_at (seen wording s g) b (home_of s b)) (spot_at (seen wording s g) b (home_of s b)) ((kept_coherent scheme s g m setup kept).block b lb)
+    few_copies s.shape.nodes (home_of s b) _ (home_at (seen wording s g) b (home_of s b))
+    (spot_at (seen wording s g) b (home_of s b)) ((kept_coherent scheme s g m setup kept).block b lb)

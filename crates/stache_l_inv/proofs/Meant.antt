@@ -1,6 +1,7 @@
 -- The table is the meaning: a handler that ends as the table says leaves the block whole.
 use Rattle.std.proofs.Common.{◌≡◌, ℕ, ◌≤◌, List, Option, Some, arith, ◌∙◌, sym, ap, subst, length}
-use Rattle.block_spots.specs.Cases.{State, HomeRw, HomeRo, HomeExcl, HomeAcks, HomePut, CacheInv, CacheRo, CacheRw, CacheWaitRo, CacheWaitRw, Rest, NoRest, OfHome, OfCache, OfRo, OfRw, Effect}
+use Rattle.block_spots.specs.Cases.{State, HomeRw, HomeRo, HomeExcl, HomeAcks, HomePut, CacheInv, CacheRo, CacheRw, CacheWaitRo}
+use Rattle.block_spots.specs.Cases.{CacheWaitRw, Rest, NoRest, OfHome, OfCache, OfRo, OfRw, Effect}
 use Rattle.block_spots.specs.Views.{seen_kind, seen_message, seen_here}
 use Rattle.stache_tree.specs.Tree.{stache}
 use Rattle.stache_l_tree.specs.Tree.{stache_l, IsStacheL}
@@ -49,7 +50,9 @@ fits_block n h here few p f =
 -- a block that is built as one at this place is one at its own
 built_there : (here : Place) (me home b : ℕ) (y : Block) → bare_here here ≡ here_of me home b y → BlockFits y → IsBlock here y
 built_there here me home b y e fits = record {
-  block = e ∙ ap (λ n. here_of n home b y) (sym (ap (λ h. h.me) e)) ∙ ap (λ n. here_of here.me n b y) (sym (ap (λ h. h.home) e)) ∙ ap (λ n. here_of here.me here.home n y) (sym (ap (λ h. h.block) e));
+  block = e ∙ ap (λ n. here_of n home b y) (sym (ap (λ h. h.me) e))
+      ∙ ap (λ n. here_of here.me n b y) (sym (ap (λ h. h.home) e))
+      ∙ ap (λ n. here_of here.me here.home n y) (sym (ap (λ h. h.block) e));
   fits = fits;
 }
 
@@ -68,17 +71,25 @@ placed_block here x is = record {
 
 -- with other words
 pub placed_words : (here : Place) (ws : List ℕ) → IsPlaced here → IsPlaced (record here { words = ws })
-placed_words here ws p = record { literal = ap (λ (h : Place). record h { words = ws }) p.literal; left = p.left; eight = p.eight }
+placed_words here ws p = record {
+  literal = ap (λ (h : Place). record h { words = ws }) p.literal;
+  left = p.left;
+  eight = p.eight;
+}
 
 -- the messages are those of Stache
 as_stache : (m : Message) (here : Place) → IsComing stache_l m here → IsComing stache m here
 as_stache m here c = record { known = c.known; kind = c.kind; block = c.block; from = c.from; carried = c.carried }
 
-pub shown : (p : Protocol) (n : ℕ) (here : Place) (m : Message) (e : Ended) (f : Effect) → IsStacheL p → n ≤ 8 → IsPlaced here → Fits standing n here.home (seen_here reads here) → IsComing stache_l m here → Does p here m e
+pub shown : (p : Protocol) (n : ℕ) (here : Place) (m : Message) (e : Ended) (f : Effect) → IsStacheL p → n ≤ 8 →
+    IsPlaced here → Fits standing n here.home (seen_here reads here) → IsComing stache_l m here → Does p here m e
     → handle_in n here.home here.me (seen_here reads here) (seen_message m) ≡ Some f → IsShown wording here e f
 shown p n here m e f is few placed fits comes does row =
-    let s : Shows here.block here.me here.home (read here) (bare_ended e) (Some f) = subst (λ (o : Option Effect). Shows here.block here.me here.home (read here) (bare_ended e) o) row
-    (table_is_the_meaning p here (read here) m (seen_kind m.kind) e n is (record { block = placed.literal; fits = fits_block n here.home here few placed fits }) (come m here (as_stache m here comes)) few (few_sharers standing says n here.home (seen_here reads here) fits) does) in
+    let s : Shows here.block here.me here.home (read here) (bare_ended e) (Some f) =
+    subst (λ (o : Option Effect). Shows here.block here.me here.home (read here) (bare_ended e) o) row
+    (table_is_the_meaning p here (read here) m (seen_kind m.kind) e n is
+    (record { block = placed.literal; fits = fits_block n here.home here few placed fits })
+    (come m here (as_stache m here comes)) few (few_sharers standing says n here.home (seen_here reads here) fits) does) in
     let there : IsBlock e.here s.0 = built_there e.here _ _ _ s.0 s.1.here s.1.fits in
     record {
       end = s.1.end;

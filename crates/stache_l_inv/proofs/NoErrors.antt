@@ -1,7 +1,9 @@
 -- In a coherent state no handler meets an error: the rows.
 use Rattle.std.proofs.Common.{Bool, false, ◌≡◌, ◌≢◌, ℕ, true, List, ◌∷◌, arith, refl, inl, inr, ◌⊎◌}
 use Rattle.std.proofs.lemmas.Bool.Decides.{nat_tests}
-use Rattle.block_spots.specs.Cases.{Kind, RdFault, WrFault, DataRo, DataRw, Put, Inv, Ack, Recall, State, HomeRw, HomeRo, HomeExcl, HomeAcks, HomePut, CacheInv, CacheRo, CacheRw, CacheWaitRo, CacheWaitRw, Rest, Here, Message}
+use Rattle.block_spots.specs.Cases.{Kind, RdFault, WrFault, DataRo, DataRw, Put, Inv, Ack, Recall, State, HomeRw, HomeRo}
+use Rattle.block_spots.specs.Cases.{HomeExcl, HomeAcks, HomePut, CacheInv, CacheRo, CacheRw, CacheWaitRo, CacheWaitRw, Rest}
+use Rattle.block_spots.specs.Cases.{Here, Message}
 use Rattle.block_spots.specs.Notes.{Note, note, Spot}
 use Rattle.block_spots.specs.Sketches.{fault}
 use Rattle.block_tags.specs.Copies.{permits}
@@ -10,7 +12,8 @@ use Rattle.stache_l_table.specs.Handling.{handle_by}
 use Rattle.stache_l_inv.proofs.Homes.{waited_for}
 use Rattle.coherence_frame.proofs.Rows.{IsAnswered}
 
-pub cache_answers : (n h : ℕ) (home here : Here) (i : ℕ) (sp : Spot) (m : Message) (xs : List Note) → AtCache n h home i sp → sp.state ≡ here.state → sp.down ≡ note m ∷ xs → IsAnswered (handle_by here.state n h i here m)
+pub cache_answers : (n h : ℕ) (home here : Here) (i : ℕ) (sp : Spot) (m : Message) (xs : List Note) → AtCache n h home i sp →
+    sp.state ≡ here.state → sp.down ≡ note m ∷ xs → IsAnswered (handle_by here.state n h i here m)
 cache_answers n h home here i sp m xs a st d = go here.state refl m.kind refl
   where
     go : (x : State) → here.state ≡ x → (k : Kind) → m.kind ≡ k → IsAnswered (handle_by here.state n h i here m)
@@ -21,7 +24,8 @@ cache_answers n h home here i sp m xs a st d = go here.state refl m.kind refl
     go CacheWaitRw p Inv q = grind arith
     go x p k q = absurd (grind arith)
 
-pub home_answers_get : (n h : ℕ) (home : Here) (sp : Spot) (m : Message) → AtHome n h home sp → IsGet (note m) → IsAnswered (handle_by home.state n h h home m)
+pub home_answers_get : (n h : ℕ) (home : Here) (sp : Spot) (m : Message) → AtHome n h home sp → IsGet (note m) →
+    IsAnswered (handle_by home.state n h h home m)
 home_answers_get n h home sp m a g = go home.state refl
   where
     go : (x : State) → home.state ≡ x → IsAnswered (handle_by home.state n h h home m)
@@ -32,8 +36,10 @@ home_answers_get n h home sp m a g = go home.state refl
     go HomePut p = grind (arith, nat_tests)
     go x p = absurd (grind arith)
 
-pub home_answers_answer : (n h f : ℕ) (home : Here) (sp own : Spot) (m : Message) (xs : List Note) → AtHome n h home own → AtCache n h home f sp → sp.up ≡ note m ∷ xs → IsAnswered (handle_by home.state n h h home m)
-home_answers_answer n h f home sp own m xs a c u = elim (waited_for n h home f sp m xs c u) [ inl w ↦ acks w.0 w.1 home.rest refl | inr w ↦ puts w.0 w.1 home.rest refl ]
+pub home_answers_answer : (n h f : ℕ) (home : Here) (sp own : Spot) (m : Message) (xs : List Note) → AtHome n h home own →
+    AtCache n h home f sp → sp.up ≡ note m ∷ xs → IsAnswered (handle_by home.state n h h home m)
+home_answers_answer n h f home sp own m xs a c u = elim (waited_for n h home f sp m xs c u)
+    [ inl w ↦ acks w.0 w.1 home.rest refl | inr w ↦ puts w.0 w.1 home.rest refl ]
   where
     acks : home.state ≡ HomeAcks → m.kind ≡ Ack → (r : Rest) → home.rest ≡ r → IsAnswered (handle_by home.state n h h home m)
     acks p q r z = grind (arith, nat_tests)
@@ -41,7 +47,9 @@ home_answers_answer n h f home sp own m xs a c u = elim (waited_for n h home f s
     puts : home.state ≡ HomePut → m.kind ≡ Put → (r : Rest) → home.rest ≡ r → IsAnswered (handle_by home.state n h h home m)
     puts p q r z = grind (arith, nat_tests)
 
-pub cache_answers_fault : (n h i b : ℕ) (here : Here) (store : Bool) → IsCacheState here.state → here.tag ≡ tag_of here.state → here.state ≢ CacheWaitRo → here.state ≢ CacheWaitRw → permits here.tag store ≡ false → IsAnswered (handle_by here.state n h i here (fault store b i))
+pub cache_answers_fault : (n h i b : ℕ) (here : Here) (store : Bool) → IsCacheState here.state → here.tag ≡ tag_of here.state →
+    here.state ≢ CacheWaitRo → here.state ≢ CacheWaitRw → permits here.tag store ≡ false →
+    IsAnswered (handle_by here.state n h i here (fault store b i))
 cache_answers_fault n h i b here store cs tg u w v = go here.state refl store refl
   where
     go : (x : State) → here.state ≡ x → (y : Bool) → store ≡ y → IsAnswered (handle_by here.state n h i here (fault store b i))
@@ -52,7 +60,8 @@ cache_answers_fault n h i b here store cs tg u w v = go here.state refl store re
     go CacheWaitRw p y q = absurd (w p)
     go x p y q = absurd (grind arith)
 
-pub home_answers_fault : (n h : ℕ) (home : Here) (own : Spot) (m : Message) → AtHome n h home own → home.state ≢ HomeRw → (m.kind ≡ RdFault) ⊎ (m.kind ≡ WrFault) → IsAnswered (handle_by home.state n h h home m)
+pub home_answers_fault : (n h : ℕ) (home : Here) (own : Spot) (m : Message) → AtHome n h home own → home.state ≢ HomeRw →
+    (m.kind ≡ RdFault) ⊎ (m.kind ≡ WrFault) → IsAnswered (handle_by home.state n h h home m)
 home_answers_fault n h home own m a d v = go home.state refl v
   where
     go : (x : State) → home.state ≡ x → (m.kind ≡ RdFault) ⊎ (m.kind ≡ WrFault) → IsAnswered (handle_by home.state n h h home m)

@@ -52,4 +52,12 @@ shows = record {
 }
 
 abbrev pub scheme : Scheme
-scheme = record { wording = wording; table = handle_in; sends = sends; says = says; home = at_the_home; cache = at_a_cache handle_in standing says cache_rows; shows = shows }
+scheme = record {
+  wording = wording;
+  table = handle_in;
+  sends = sends;
+  says = says;
+  home = at_the_home;
+  cache = at_a_cache handle_in standing says cache_rows;
+  shows = shows;
+}

@@ -1,10 +1,14 @@
--- Coherence under Stache_L: what it says of the home and its caches in words of its own, and the words that it has in common. At most two caches
--- hold a block read-only.
+-- Coherence under Stache_L: what it says of the home and its caches in words of its own, and the words that it has in common.
+-- At most two caches hold a block read-only.
 use Rattle.std.specs.Prelude.{Bool, ◌≡◌, ◌≢◌, ℕ, ◌+◌, ◌≤◌, true, false, List, []}
-use Rattle.block_spots.specs.Cases.{State, HomeRw, HomeRo, HomeExcl, HomeAcks, HomePut, CacheWaitRo, CacheWaitRw, Rest, NoRest, OfHome, OfRo, OfRw, OfCache, Here, members}
+use Rattle.block_spots.specs.Cases.{State, HomeRw, HomeRo, HomeExcl, HomeAcks, HomePut, CacheWaitRo, CacheWaitRw, Rest, NoRest}
+use Rattle.block_spots.specs.Cases.{OfHome, OfRo, OfRw, OfCache, Here, members}
 use Rattle.block_spots.specs.Notes.{Spot, gets_rw, held_ro, held_rw}
 use Rattle.block_spots.specs.Sketches.{Layout, Local, Sketch}
-pub use Rattle.coherence_frame.specs.Words.{AllEligible, AllSentBy, Answers, Apart, Elsewhere, GivesBack, HasWords, InHomeRoOrAcks, IsAway, IsCacheNode, IsCacheState, IsFault, IsGet, IsHomeState, IsSettled, IsSharer, IsWaiting, NoSharers, OneRequest, Owns, allows_load, allows_store, current_in, own_rd, own_wr, owner_has, owner_words, tag_of}
+pub use Rattle.coherence_frame.specs.Words.{AllEligible, AllSentBy, Answers, Apart, Elsewhere, GivesBack, HasWords}
+pub use Rattle.coherence_frame.specs.Words.{InHomeRoOrAcks, IsAway, IsCacheNode, IsCacheState, IsFault, IsGet, IsHomeState}
+pub use Rattle.coherence_frame.specs.Words.{IsSettled, IsSharer, IsWaiting, NoSharers, OneRequest, Owns, allows_load}
+pub use Rattle.coherence_frame.specs.Words.{allows_store, current_in, own_rd, own_wr, owner_has, owner_words, tag_of}
 pub use Rattle.coherence_inv.specs.Coherent.{HasCopies, HeldFor}
 use Rattle.coherence_frame.specs.Coherent as frame
 use Rattle.coherence_frame.specs.Coherent.{Standing}
@@ -49,10 +53,12 @@ RestFits n h CacheWaitRo r = r ≡ OfCache
 RestFits n h CacheWaitRw r = r ≡ OfCache
 RestFits n h _ r = r ≡ NoRest
 
--- the directory while the home collects acknowledgements: for a reader one sharer stays, which is not the reader, and one copy is to go
+-- the directory while the home collects acknowledgements: for a reader one sharer stays, which is not the reader, and one copy
+-- is to go
 abbrev pub InfosInAcks : ℕ → ℕ → Rest → Here → Type 0
 InfosInAcks n h (OfRo a) home =
-    ((k : ℕ) → home.sharers k ≡ true → IsCacheNode n h k) × (members n home.sharers ≡ 1) × (home.sharers a ≡ false) × (home.acks ≡ 1)
+    ((k : ℕ) → home.sharers k ≡ true → IsCacheNode n h k) × (members n home.sharers ≡ 1) × (home.sharers a ≡ false)
+    × (home.acks ≡ 1)
 InfosInAcks n h rest home = NoSharers home × (1 ≤ home.acks) × (home.acks ≤ 2)
 
 abbrev pub Infos : ℕ → ℕ → State → Here → Type 0
@@ -67,7 +73,13 @@ Infos n h _ home = ⊥
 -- ---- over the sketch
 
 abbrev pub standing : Standing
-standing = record { RestFits = RestFits; Infos = Infos; Stands = Stands; Copies = HasCopies; HeldFor = λ st r x b. HeldFor st x b }
+standing = record {
+  RestFits = RestFits;
+  Infos = Infos;
+  Stands = Stands;
+  Copies = HasCopies;
+  HeldFor = λ st r x b. HeldFor st x b;
+}
 
 abbrev pub AtCache : ℕ → ℕ → Here → ℕ → Spot → Type 0
 AtCache = frame.AtCache standing

@@ -15,4 +15,12 @@ pub record IsPlaced (here : Place) : Type 0 where
   pub eight : length (read here).base.set ≡ 8  -- as every set of nodes in the program
 
 abbrev pub wording : Wording
-wording = record { standing = standing; tree = stache_l; reads = reads; IsPlaced = IsPlaced; IsDown = IsDown; IsUp = IsUp; Copies = Copies }
+wording = record {
+  standing = standing;
+  tree = stache_l;
+  reads = reads;
+  IsPlaced = IsPlaced;
+  IsDown = IsDown;
+  IsUp = IsUp;
+  Copies = Copies;
+}

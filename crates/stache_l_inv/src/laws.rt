@@ -4,8 +4,9 @@ ghost use Rattle.coherence_frame.specs.Potential.{EventsPay, RunsAreCounted};
 ghost use Rattle.stache_l_inv.specs.Laws.{CopiesAreFew};
 ghost use Rattle.stache_l_inv.specs.Parts.{wording};
 
-/// Under Stache_L a start is coherent and beside the flat machine, each event keeps that, and so every run is explained by one flat memory: the
-/// instructions that completed, executed in the order of the journal on one list of words, do what the journal says.
+/// Under Stache_L a start is coherent and beside the flat machine, each event keeps that, and so every run is explained by one
+/// flat memory: the instructions that completed, executed in the order of the journal on one list of words, do what the journal
+/// says.
 pub fn runs_are_explained()
     ensures start { StartsKept wording }
     ensures event { EventsKeep wording }
@@ -24,16 +25,16 @@ pub fn copies_are_few()
     ensures { CopiesAreFew }
 {}
 
-/// Each event pays for its handler and for what it sends out of a potential that a fault alone raises: in a run of n nodes with k faults at most
-/// (3n-1)·k messages are handled and 2n·k sent, and no budget is reached.
+/// Each event pays for its handler and for what it sends out of a potential that a fault alone raises: in a run of n nodes with
+/// k faults at most (3n-1)·k messages are handled and 2n·k sent, and no budget is reached.
 pub fn events_pay()
     ensures event { EventsPay wording }
     ensures run { RunsAreCounted wording }
     ensures unspent { NoBudgetIsSpent wording }
 {}
 
-/// Where a run is quiet nothing is in flight, nothing is deferred and no node is blocked; and an access that was refused is what its node
-/// completes next.
+/// Where a run is quiet nothing is in flight, nothing is deferred and no node is blocked; and an access that was refused is
+/// what its node completes next.
 pub fn how_runs_end()
     ensures quiet { QuietRunsAreDone wording }
     ensures followed { FaultsAreFollowed wording }

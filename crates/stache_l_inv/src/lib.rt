@@ -1,4 +1,5 @@
-//! Coherence under Stache_L, the directory of two sharers: every event keeps it, beside one flat memory, and pays for what it sends and lets handle.
+//! Coherence under Stache_L, the directory of two sharers: every event keeps it, beside one flat memory, and pays for what it
+//! sends and lets handle.
 #![tactic(auto)]
 
 mod laws;

@@ -1,4 +1,5 @@
-//! Stache_L, a protocol that is shipped beside Stache: at most two caches hold a block read-only. `stache_l` reads its text and checks it.
+//! Stache_L, a protocol that is shipped beside Stache: at most two caches hold a block read-only. `stache_l` reads its text and
+//! checks it.
 #![tactic(auto)]
 
 mod laws;

@@ -13,7 +13,15 @@ all-told = refl
 
 head-is : IsGoodHead stache_l
 unfolding states_l is_name keyword_of
-head-is = record { profiles = inr refl; names = refl; few_states = omega arith; few_messages = omega arith; few_handlers = omega arith; few_infos = omega arith; few_message_args = refl }
+head-is = record {
+  profiles = inr refl;
+  names = refl;
+  few_states = omega arith;
+  few_messages = omega arith;
+  few_handlers = omega arith;
+  few_infos = omega arith;
+  few_message_args = refl;
+}
 
 pub tree-is : IsTree stache_l
 tree-is = tree-of stache_l told_l told_l-is all-told head-is

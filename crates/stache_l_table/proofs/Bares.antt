@@ -6,6 +6,7 @@ use Rattle.stache_l_table.specs.Blocks.{Block, BlockFits, IsBlock, here_of, late
 
 pub is_block : (me home b : ℕ) (x : Block) → BlockFits x → IsBlock (here_of me home b x) x
 is_block me home b x fits = record {
-  block = ap (λ s. record (here_of me home b x) { state = s }) (val-bare (number_of x.base.state) (later_in me x.base.state x.base.left x.chosen x.base.rest));
+  block = ap (λ s. record (here_of me home b x) { state = s })
+      (val-bare (number_of x.base.state) (later_in me x.base.state x.base.left x.chosen x.base.rest));
   fits = fits;
 }

@@ -1,5 +1,6 @@
 -- The last of a set's nodes is the member of greatest number.
-use Rattle.std.proofs.Common.{◌≡◌, ◌∙◌, ℕ, zero, suc, ◌<◌, ◌≤◌, Bool, true, false, List, [], ◌∷◌, length, refl, ap, sym, subst, arith}
+use Rattle.std.proofs.Common.{◌≡◌, ◌∙◌, ℕ, zero, suc, ◌<◌, ◌≤◌, Bool, true, false, List, [], ◌∷◌, length, refl, ap, sym, subst}
+use Rattle.std.proofs.Common.{arith}
 use Rattle.std.specs.Prelude.{if◌then◌else◌, ◌==◌}
 use Rattle.tw_base.specs.NodeSets.{count, has, members, members_from}
 use Rattle.teapot_meaning.specs.Depth.{nodes_in}
@@ -8,14 +9,19 @@ use Rattle.stache_table.proofs.Sets.{IsEight, eight_of, tests}
 use Rattle.stache_l_table.specs.Handling.{greatest}
 
 -- the last member from k on, or the one before
-one_more : (m k : ℕ) (t : Bool) (s : List Bool) → last_of m (members_from k (t ∷ s)) ≡ last_of (if t then k else m) (members_from (suc k) s)
+one_more : (m k : ℕ) (t : Bool) (s : List Bool) → last_of m (members_from k (t ∷ s))
+    ≡ last_of (if t then k else m) (members_from (suc k) s)
 one_more m k true s = refl
 one_more m k false s = refl
 
-eight-last : (t0 t1 t2 t3 t4 t5 t6 t7 : Bool) → last_of 0 (members_from 0 (t0 ∷ t1 ∷ t2 ∷ t3 ∷ t4 ∷ t5 ∷ t6 ∷ t7 ∷ [])) ≡ greatest 8 (has (t0 ∷ t1 ∷ t2 ∷ t3 ∷ t4 ∷ t5 ∷ t6 ∷ t7 ∷ []))
+eight-last : (t0 t1 t2 t3 t4 t5 t6 t7 : Bool) → last_of 0 (members_from 0 (t0 ∷ t1 ∷ t2 ∷ t3 ∷ t4 ∷ t5 ∷ t6 ∷ t7 ∷ []))
+    ≡ greatest 8 (has (t0 ∷ t1 ∷ t2 ∷ t3 ∷ t4 ∷ t5 ∷ t6 ∷ t7 ∷ []))
 unfolding has
 eight-last t0 t1 t2 t3 t4 t5 t6 t7 =
-    one_more 0 0 t0 _ ∙ (one_more _ 1 t1 _ ∙ (one_more _ 2 t2 _ ∙ (one_more _ 3 t3 _ ∙ (one_more _ 4 t4 _ ∙ (one_more _ 5 t5 _ ∙ (one_more _ 6 t6 _ ∙ one_more _ 7 t7 _))))))
+    one_more 0 0 t0 _
+    ∙ (one_more _ 1 t1 _
+    ∙ (one_more _ 2 t2 _
+    ∙ (one_more _ 3 t3 _ ∙ (one_more _ 4 t4 _ ∙ (one_more _ 5 t5 _ ∙ (one_more _ 6 t6 _ ∙ one_more _ 7 t7 _))))))
 
 last-eight : (s : List Bool) → IsEight s → last_of 0 (nodes_in s) ≡ greatest 8 (has s)
 unfolding members
@@ -67,4 +73,5 @@ two-some s eight two = by_nodes (nodes_in s) refl
   where
     by_nodes : (ms : List ℕ) → nodes_in s ≡ ms → (n : ℕ) × (ns : List ℕ) × (nodes_in s ≡ n ∷ ns)
     by_nodes (n ∷ ns) is = (n, ns, is)
-    by_nodes [] is = absurd (let none : count s ≡ 0 = no-nodes s (eight_of s eight) is in let e : (0 == 2) ≡ true = subst (λ k. (k == 2) ≡ true) none two in cc)
+    by_nodes [] is = absurd (let none : count s ≡ 0 = no-nodes s (eight_of s eight) is in let e : (0 == 2)
+        ≡ true = subst (λ k. (k == 2) ≡ true) none two in cc)

@@ -14,10 +14,12 @@ greatest-is n s le none =
     let e : (8 - n) + n ≡ 8 = omega arith in
     subst (λ k. greatest k s ≡ greatest n s) e (greatest_past n (8 - n) s none)
 
-home_ro-is : (n home me : ℕ) (h : Here) (m : Message) (k : Kind) → n ≤ 8 → ((i : ℕ) → n ≤ i → h.sharers i ≡ false) → home_ro 8 me h m k ≡ home_ro n me h m k
+home_ro-is : (n home me : ℕ) (h : Here) (m : Message) (k : Kind) → n ≤ 8 → ((i : ℕ) → n ≤ i → h.sharers i ≡ false) →
+    home_ro 8 me h m k ≡ home_ro n me h m k
 home_ro-is n home me h m GetRo le none = rw (members-is n h.sharers le none, greatest-is n h.sharers le none)
 home_ro-is n home me h m k le none = stache.home_ro-is n home me h m k le none
 
-pub handle-is : (s : State) (n home me : ℕ) (h : Here) (m : Message) → n ≤ 8 → (s ≡ HomeRo → (i : ℕ) → n ≤ i → h.sharers i ≡ false) → handle_by s 8 home me h m ≡ handle_by s n home me h m
+pub handle-is : (s : State) (n home me : ℕ) (h : Here) (m : Message) → n ≤ 8 →
+    (s ≡ HomeRo → (i : ℕ) → n ≤ i → h.sharers i ≡ false) → handle_by s 8 home me h m ≡ handle_by s n home me h m
 handle-is HomeRo n home me h m le none = home_ro-is n home me h m m.kind le (none refl)
 handle-is _ n home me h m le none = refl

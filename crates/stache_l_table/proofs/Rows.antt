@@ -8,7 +8,8 @@ use Rattle.teapot_meaning.specs.Depth.{nodes_in}
 use Rattle.teapot_meaning.specs.Steps.{payload_of}
 use Rattle.tw_base.specs.NodeSets.{count, empty, has, with, without}
 use Rattle.block_spots.specs.Cases as cases
-use Rattle.block_spots.specs.Cases.{HomeRw, HomeRo, HomeExcl, HomeAcks, HomePut, CacheInv, CacheRo, CacheRw, CacheWaitRo, CacheWaitRw, NoRest, OfHome, OfRo, OfRw, OfCache, nobody, with_node, without_node}
+use Rattle.block_spots.specs.Cases.{HomeRw, HomeRo, HomeExcl, HomeAcks, HomePut, CacheInv, CacheRo, CacheRw, CacheWaitRo}
+use Rattle.block_spots.specs.Cases.{CacheWaitRw, OfHome, OfRo, OfRw, OfCache, without_node}
 use Rattle.stache_table.specs.Blocks.{LeftFits}
 use Rattle.stache_table.specs.Handling.{inv_all}
 use Rattle.stache_table.specs.Runs.{last_of}
@@ -30,123 +31,543 @@ holding s rest left set owner acks tag d = record { base = stache.holding s rest
 abbrev pub waiting : cases.Rest → ℕ → ℕ → List Bool → ℕ → ℕ → Data → Block
 waiting rest left k set owner acks d = record { base = stache.holding HomeAcks rest left set owner acks ReadOnly d; chosen = k }
 
-pub get_ro_at_home_rw : (b me home from : ℕ) (set : List Bool) (owner acks : ℕ) (d : Data) → length set ≡ 8 → from < 8 → Row b me home (calm HomeRw set owner acks ReadWrite d) cases.GetRo from None
+pub get_ro_at_home_rw : (b me home from : ℕ) (set : List Bool) (owner acks : ℕ) (d : Data) → length set ≡ 8 → from < 8 →
+    Row b me home (calm HomeRw set owner acks ReadWrite d) cases.GetRo from None
 unfolding states_l payload_of
-get_ro_at_home_rw b me home from set owner acks d eight small to c = (calm HomeRo (with empty from) owner acks ReadOnly d, record { end = refl; here = refl; seen = rw (with-is empty from empty-eight small, empty-is); sends = refl; kept = refl; freed = refl; woke = refl; fits = record { rest = tt; left = refl; tag = refl; eight = with-eight empty from empty-eight; chosen = refl } })
+get_ro_at_home_rw b me home from set owner acks d eight small to c = (
+  calm HomeRo (with empty from) owner acks ReadOnly d,
+  record {
+    end = refl;
+    here = refl;
+    seen = rw (with-is empty from empty-eight small, empty-is);
+    sends = refl;
+    kept = refl;
+    freed = refl;
+    woke = refl;
+    fits = record {
+      rest = tt;
+      left = refl;
+      tag = refl;
+      eight = with-eight empty from empty-eight;
+      chosen = refl;
+    };
+  },
+)
 
-pub get_rw_at_home_rw : (b me home from : ℕ) (set : List Bool) (owner acks : ℕ) (d : Data) → length set ≡ 8 → from < 8 → Row b me home (calm HomeRw set owner acks ReadWrite d) cases.GetRw from None
+pub get_rw_at_home_rw : (b me home from : ℕ) (set : List Bool) (owner acks : ℕ) (d : Data) → length set ≡ 8 → from < 8 →
+    Row b me home (calm HomeRw set owner acks ReadWrite d) cases.GetRw from None
 unfolding states_l payload_of
-get_rw_at_home_rw b me home from set owner acks d eight small to c = (calm HomeExcl set from acks Invalid d, record { end = refl; here = refl; seen = refl; sends = refl; kept = refl; freed = refl; woke = refl; fits = record { rest = tt; left = refl; tag = refl; eight = eight; chosen = refl } })
+get_rw_at_home_rw b me home from set owner acks d eight small to c = (
+  calm HomeExcl set from acks Invalid d,
+  record {
+    end = refl;
+    here = refl;
+    seen = refl;
+    sends = refl;
+    kept = refl;
+    freed = refl;
+    woke = refl;
+    fits = record { rest = tt; left = refl; tag = refl; eight = eight; chosen = refl };
+  },
+)
 
-pub rd_fault_at_home_ro : (b me home : ℕ) (set : List Bool) (owner acks : ℕ) (d : Data) → length set ≡ 8 → Row b me home (calm HomeRo set owner acks ReadOnly d) cases.RdFault me None
+pub rd_fault_at_home_ro : (b me home : ℕ) (set : List Bool) (owner acks : ℕ) (d : Data) → length set ≡ 8 →
+    Row b me home (calm HomeRo set owner acks ReadOnly d) cases.RdFault me None
 unfolding states_l payload_of
-rd_fault_at_home_ro b me home set owner acks d eight to c = (calm HomeRo set owner acks ReadOnly d, record { end = refl; here = refl; seen = refl; sends = refl; kept = refl; freed = refl; woke = refl; fits = record { rest = tt; left = refl; tag = refl; eight = eight; chosen = refl } })
+rd_fault_at_home_ro b me home set owner acks d eight to c = (
+  calm HomeRo set owner acks ReadOnly d,
+  record {
+    end = refl;
+    here = refl;
+    seen = refl;
+    sends = refl;
+    kept = refl;
+    freed = refl;
+    woke = refl;
+    fits = record { rest = tt; left = refl; tag = refl; eight = eight; chosen = refl };
+  },
+)
 
-pub wr_fault_at_home_ro : (b me home : ℕ) (set : List Bool) (owner acks : ℕ) (d : Data) → length set ≡ 8 → Row b me home (calm HomeRo set owner acks ReadOnly d) cases.WrFault me None
+pub wr_fault_at_home_ro : (b me home : ℕ) (set : List Bool) (owner acks : ℕ) (d : Data) → length set ≡ 8 →
+    Row b me home (calm HomeRo set owner acks ReadOnly d) cases.WrFault me None
 unfolding states_l payload_of
-wr_fault_at_home_ro b me home set owner acks d eight to c = (holding HomeAcks OfHome 1 empty owner (count set) ReadOnly d, record { end = refl; here = refl; seen = rw (empty-is, count-is); sends = sym (sent-all set b me eight); kept = refl; freed = refl; woke = refl; fits = record { rest = tt; left = refl; tag = refl; eight = empty-eight; chosen = refl } })
+wr_fault_at_home_ro b me home set owner acks d eight to c = (
+  holding HomeAcks OfHome 1 empty owner (count set) ReadOnly d,
+  record {
+    end = refl;
+    here = refl;
+    seen = rw (empty-is, count-is);
+    sends = sym (sent-all set b me eight);
+    kept = refl;
+    freed = refl;
+    woke = refl;
+    fits = record { rest = tt; left = refl; tag = refl; eight = empty-eight; chosen = refl };
+  },
+)
 
-pub get_ro_with_room : (b me home from : ℕ) (set : List Bool) (owner acks : ℕ) (d : Data) → (count set == 2) ≡ false → length set ≡ 8 → from < 8 → Row b me home (calm HomeRo set owner acks ReadOnly d) cases.GetRo from None
+pub get_ro_with_room : (b me home from : ℕ) (set : List Bool) (owner acks : ℕ) (d : Data) → (count set == 2) ≡ false →
+    length set ≡ 8 → from < 8 → Row b me home (calm HomeRo set owner acks ReadOnly d) cases.GetRo from None
 unfolding states_l payload_of
-get_ro_with_room b me home from set owner acks d h eight small to c = rw (← count-is set, h) (calm HomeRo (with set from) owner acks ReadOnly d, record { end = refl; here = refl; seen = rw (with-is set from eight small); sends = refl; kept = refl; freed = refl; woke = refl; fits = record { rest = tt; left = refl; tag = refl; eight = with-eight set from eight; chosen = refl } })
+get_ro_with_room b me home from set owner acks d h eight small to c =
+    rw (← count-is set, h) (
+      calm HomeRo (with set from) owner acks ReadOnly d,
+      record {
+        end = refl;
+        here = refl;
+        seen = rw (with-is set from eight small);
+        sends = refl;
+        kept = refl;
+        freed = refl;
+        woke = refl;
+        fits = record { rest = tt; left = refl; tag = refl; eight = with-eight set from eight; chosen = refl };
+      },
+    )
 
-pub get_ro_without_room : (b me home from : ℕ) (set : List Bool) (owner acks : ℕ) (d : Data) (n : ℕ) (ns : List ℕ) → nodes_in set ≡ n ∷ ns → (count set == 2) ≡ true → length set ≡ 8 → from < 8 → Row b me home (calm HomeRo set owner acks ReadOnly d) cases.GetRo from None
+pub get_ro_without_room : (b me home from : ℕ) (set : List Bool) (owner acks : ℕ) (d : Data) (n : ℕ) (ns : List ℕ) →
+    nodes_in set ≡ n ∷ ns → (count set == 2) ≡ true → length set ≡ 8 → from < 8 →
+    Row b me home (calm HomeRo set owner acks ReadOnly d) cases.GetRo from None
 unfolding states_l payload_of
 get_ro_without_room b me home from set owner acks d n ns is h eight small to c =
-    rw (← count-is set, h, is) (waiting (OfRo from) 1 (last_of n ns) (without set (last_of n ns)) owner 1 d, record { end = refl; here = refl; seen = rw (without-is set (last_of n ns) eight (last-low set n ns eight is), last-is set n ns eight is); sends = rw (last-is set n ns eight is); kept = refl; freed = refl; woke = refl; fits = record { rest = small; left = refl; tag = refl; eight = without-eight set (last_of n ns) eight; chosen = tt } })
+    rw (← count-is set, h, is) (
+      waiting (OfRo from) 1 (last_of n ns) (without set (last_of n ns)) owner 1 d,
+      record {
+        end = refl;
+        here = refl;
+        seen = rw (
+          without-is set (last_of n ns) eight (last-low set n ns eight is),
+          last-is set n ns eight is,
+        );
+        sends = rw (last-is set n ns eight is);
+        kept = refl;
+        freed = refl;
+        woke = refl;
+        fits = record { rest = small; left = refl; tag = refl; eight = without-eight set (last_of n ns) eight; chosen = tt };
+      },
+    )
 
-pub get_rw_with_others : (b me home from : ℕ) (set : List Bool) (owner acks : ℕ) (d : Data) → nat_lt 0 (count (without set from)) ≡ true → length set ≡ 8 → from < 8 → Row b me home (calm HomeRo set owner acks ReadOnly d) cases.GetRw from None
+pub get_rw_with_others : (b me home from : ℕ) (set : List Bool) (owner acks : ℕ) (d : Data) →
+    nat_lt 0 (count (without set from)) ≡ true → length set ≡ 8 → from < 8 →
+    Row b me home (calm HomeRo set owner acks ReadOnly d) cases.GetRw from None
 unfolding states_l payload_of
 get_rw_with_others b me home from set owner acks d h eight small to c =
-    let same : cases.members 8 (without_node (has set) from) ≡ count (without set from) = rw (← without-is set from eight small) (sym (count-is (without set from))) in
-    rw (same, h) (holding HomeAcks (OfRw from) 1 empty owner (count (without set from)) ReadOnly d, record { end = refl; here = refl; seen = rw empty-is; sends = ap (λ f. inv_all 8 f b me) (sym (without-is set from eight small)) ∙ sym (sent-all (without set from) b me (without-eight set from eight)); kept = refl; freed = refl; woke = refl; fits = record { rest = small; left = refl; tag = refl; eight = empty-eight; chosen = refl } })
+    let same : cases.members 8 (without_node (has set) from) ≡ count (without set from) =
+    rw (← without-is set from eight small) (sym (count-is (without set from))) in
+    rw (same, h) (
+      holding HomeAcks (OfRw from) 1 empty owner (count (without set from)) ReadOnly d,
+      record {
+        end = refl;
+        here = refl;
+        seen = rw empty-is;
+        sends = ap (λ f. inv_all 8 f b me) (sym (without-is set from eight small))
+            ∙ sym (sent-all (without set from) b me (without-eight set from eight));
+        kept = refl;
+        freed = refl;
+        woke = refl;
+        fits =
+            record { rest = small; left = refl; tag = refl; eight = empty-eight; chosen = refl };
+      },
+    )
 
-pub get_rw_alone : (b me home from : ℕ) (set : List Bool) (owner acks : ℕ) (d : Data) → nat_lt 0 (count (without set from)) ≡ false → length set ≡ 8 → from < 8 → Row b me home (calm HomeRo set owner acks ReadOnly d) cases.GetRw from None
+pub get_rw_alone : (b me home from : ℕ) (set : List Bool) (owner acks : ℕ) (d : Data) →
+    nat_lt 0 (count (without set from)) ≡ false → length set ≡ 8 → from < 8 →
+    Row b me home (calm HomeRo set owner acks ReadOnly d) cases.GetRw from None
 unfolding states_l payload_of
 get_rw_alone b me home from set owner acks d h eight small to c =
-    let same : cases.members 8 (without_node (has set) from) ≡ count (without set from) = rw (← without-is set from eight small) (sym (count-is (without set from))) in
-    rw (same, h) (calm HomeExcl (without set from) from (count (without set from)) Invalid d, record { end = refl; here = refl; seen = rw (without-is set from eight small, none _ h); sends = refl; kept = refl; freed = refl; woke = refl; fits = record { rest = tt; left = refl; tag = refl; eight = without-eight set from eight; chosen = refl } })
+    let same : cases.members 8 (without_node (has set) from) ≡ count (without set from) =
+    rw (← without-is set from eight small) (sym (count-is (without set from))) in
+    rw (same, h) (
+      calm HomeExcl (without set from) from (count (without set from)) Invalid d,
+      record {
+        end = refl;
+        here = refl;
+        seen = rw (without-is set from eight small, none _ h);
+        sends = refl;
+        kept = refl;
+        freed = refl;
+        woke = refl;
+        fits = record {
+          rest = tt;
+          left = refl;
+          tag = refl;
+          eight = without-eight set from eight;
+          chosen = refl;
+        };
+      },
+    )
 
-pub rd_fault_at_home_excl : (b me home : ℕ) (set : List Bool) (owner acks : ℕ) (d : Data) → length set ≡ 8 → Row b me home (calm HomeExcl set owner acks Invalid d) cases.RdFault me None
+pub rd_fault_at_home_excl : (b me home : ℕ) (set : List Bool) (owner acks : ℕ) (d : Data) → length set ≡ 8 →
+    Row b me home (calm HomeExcl set owner acks Invalid d) cases.RdFault me None
 unfolding states_l payload_of
-rd_fault_at_home_excl b me home set owner acks d eight to c = (holding HomePut OfHome 2 set owner acks Invalid d, record { end = refl; here = refl; seen = refl; sends = refl; kept = refl; freed = refl; woke = refl; fits = record { rest = tt; left = refl; tag = refl; eight = eight; chosen = refl } })
+rd_fault_at_home_excl b me home set owner acks d eight to c = (
+  holding HomePut OfHome 2 set owner acks Invalid d,
+  record {
+    end = refl;
+    here = refl;
+    seen = refl;
+    sends = refl;
+    kept = refl;
+    freed = refl;
+    woke = refl;
+    fits = record { rest = tt; left = refl; tag = refl; eight = eight; chosen = refl };
+  },
+)
 
-pub wr_fault_at_home_excl : (b me home : ℕ) (set : List Bool) (owner acks : ℕ) (d : Data) → length set ≡ 8 → Row b me home (calm HomeExcl set owner acks Invalid d) cases.WrFault me None
+pub wr_fault_at_home_excl : (b me home : ℕ) (set : List Bool) (owner acks : ℕ) (d : Data) → length set ≡ 8 →
+    Row b me home (calm HomeExcl set owner acks Invalid d) cases.WrFault me None
 unfolding states_l payload_of
-wr_fault_at_home_excl b me home set owner acks d eight to c = (holding HomePut OfHome 2 set owner acks Invalid d, record { end = refl; here = refl; seen = refl; sends = refl; kept = refl; freed = refl; woke = refl; fits = record { rest = tt; left = refl; tag = refl; eight = eight; chosen = refl } })
+wr_fault_at_home_excl b me home set owner acks d eight to c = (
+  holding HomePut OfHome 2 set owner acks Invalid d,
+  record {
+    end = refl;
+    here = refl;
+    seen = refl;
+    sends = refl;
+    kept = refl;
+    freed = refl;
+    woke = refl;
+    fits = record { rest = tt; left = refl; tag = refl; eight = eight; chosen = refl };
+  },
+)
 
-pub get_ro_at_home_excl : (b me home from : ℕ) (set : List Bool) (owner acks : ℕ) (d : Data) → length set ≡ 8 → from < 8 → Row b me home (calm HomeExcl set owner acks Invalid d) cases.GetRo from None
+pub get_ro_at_home_excl : (b me home from : ℕ) (set : List Bool) (owner acks : ℕ) (d : Data) → length set ≡ 8 → from < 8 →
+    Row b me home (calm HomeExcl set owner acks Invalid d) cases.GetRo from None
 unfolding states_l payload_of
-get_ro_at_home_excl b me home from set owner acks d eight small to c = (holding HomePut (OfRo from) 2 set owner acks Invalid d, record { end = refl; here = refl; seen = refl; sends = refl; kept = refl; freed = refl; woke = refl; fits = record { rest = small; left = refl; tag = refl; eight = eight; chosen = refl } })
+get_ro_at_home_excl b me home from set owner acks d eight small to c = (
+  holding HomePut (OfRo from) 2 set owner acks Invalid d,
+  record {
+    end = refl;
+    here = refl;
+    seen = refl;
+    sends = refl;
+    kept = refl;
+    freed = refl;
+    woke = refl;
+    fits = record { rest = small; left = refl; tag = refl; eight = eight; chosen = refl };
+  },
+)
 
-pub get_rw_at_home_excl : (b me home from : ℕ) (set : List Bool) (owner acks : ℕ) (d : Data) → length set ≡ 8 → from < 8 → Row b me home (calm HomeExcl set owner acks Invalid d) cases.GetRw from None
+pub get_rw_at_home_excl : (b me home from : ℕ) (set : List Bool) (owner acks : ℕ) (d : Data) → length set ≡ 8 → from < 8 →
+    Row b me home (calm HomeExcl set owner acks Invalid d) cases.GetRw from None
 unfolding states_l payload_of
-get_rw_at_home_excl b me home from set owner acks d eight small to c = (holding HomePut (OfRw from) 2 set owner acks Invalid d, record { end = refl; here = refl; seen = refl; sends = refl; kept = refl; freed = refl; woke = refl; fits = record { rest = small; left = refl; tag = refl; eight = eight; chosen = refl } })
+get_rw_at_home_excl b me home from set owner acks d eight small to c = (
+  holding HomePut (OfRw from) 2 set owner acks Invalid d,
+  record {
+    end = refl;
+    here = refl;
+    seen = refl;
+    sends = refl;
+    kept = refl;
+    freed = refl;
+    woke = refl;
+    fits = record { rest = small; left = refl; tag = refl; eight = eight; chosen = refl };
+  },
+)
 
-pub more_acks_home : (b me home from : ℕ) (set : List Bool) (owner acks : ℕ) (d : Data) → (left : ℕ) → left ≡ 1 → nat_lt 1 acks ≡ true → length set ≡ 8 → from < 8 → Row b me home (holding HomeAcks OfHome left set owner acks ReadOnly d) cases.Ack from None
+pub more_acks_home : (b me home from : ℕ) (set : List Bool) (owner acks : ℕ) (d : Data) → (left : ℕ) → left ≡ 1 →
+    nat_lt 1 acks ≡ true → length set ≡ 8 → from < 8 → Row b me home
+    (holding HomeAcks OfHome left set owner acks ReadOnly d) cases.Ack from None
 unfolding states_l payload_of
-more_acks_home b me home from set owner acks d left fit h eight small to c = rw (h, more acks h) (holding HomeAcks OfHome left set owner (acks - 1) ReadOnly d, record { end = refl; here = refl; seen = refl; sends = refl; kept = refl; freed = refl; woke = refl; fits = record { rest = tt; left = fit; tag = refl; eight = eight; chosen = refl } })
+more_acks_home b me home from set owner acks d left fit h eight small to c =
+    rw (h, more acks h) (
+      holding HomeAcks OfHome left set owner (acks - 1) ReadOnly d,
+      record {
+        end = refl;
+        here = refl;
+        seen = refl;
+        sends = refl;
+        kept = refl;
+        freed = refl;
+        woke = refl;
+        fits = record { rest = tt; left = fit; tag = refl; eight = eight; chosen = refl };
+      },
+    )
 
-pub more_acks_rw : (b me home from : ℕ) (set : List Bool) (owner acks : ℕ) (d : Data) → (left : ℕ) → left ≡ 1 → (a : ℕ) → a < 8 → nat_lt 1 acks ≡ true → length set ≡ 8 → from < 8 → Row b me home (holding HomeAcks (OfRw a) left set owner acks ReadOnly d) cases.Ack from None
+pub more_acks_rw : (b me home from : ℕ) (set : List Bool) (owner acks : ℕ) (d : Data) → (left : ℕ) → left ≡ 1 → (a : ℕ) →
+    a < 8 → nat_lt 1 acks ≡ true → length set ≡ 8 → from < 8 →
+    Row b me home (holding HomeAcks (OfRw a) left set owner acks ReadOnly d) cases.Ack from None
 unfolding states_l payload_of
-more_acks_rw b me home from set owner acks d left fit a few h eight small to c = rw (h, more acks h) (holding HomeAcks (OfRw a) left set owner (acks - 1) ReadOnly d, record { end = refl; here = refl; seen = refl; sends = refl; kept = refl; freed = refl; woke = refl; fits = record { rest = few; left = fit; tag = refl; eight = eight; chosen = refl } })
+more_acks_rw b me home from set owner acks d left fit a few h eight small to c =
+    rw (h, more acks h) (
+      holding HomeAcks (OfRw a) left set owner (acks - 1) ReadOnly d,
+      record {
+        end = refl;
+        here = refl;
+        seen = refl;
+        sends = refl;
+        kept = refl;
+        freed = refl;
+        woke = refl;
+        fits = record { rest = few; left = fit; tag = refl; eight = eight; chosen = refl };
+      },
+    )
 
-pub last_ack_home : (b me home from : ℕ) (set : List Bool) (owner acks : ℕ) (d : Data) → (left : ℕ) → nat_lt 1 acks ≡ false → length set ≡ 8 → from < 8 → Row b me home (holding HomeAcks OfHome left set owner acks ReadOnly d) cases.Ack from None
+pub last_ack_home : (b me home from : ℕ) (set : List Bool) (owner acks : ℕ) (d : Data) → (left : ℕ) → nat_lt 1 acks ≡ false →
+    length set ≡ 8 → from < 8 → Row b me home (holding HomeAcks OfHome left set owner acks ReadOnly d) cases.Ack from None
 unfolding states_l payload_of
-last_ack_home b me home from set owner acks d left h eight small to c = rw (h, last acks h) (calm HomeRw set owner (acks - 1) ReadWrite d, record { end = refl; here = refl; seen = rw (not_more acks h); sends = refl; kept = refl; freed = refl; woke = refl; fits = record { rest = tt; left = refl; tag = refl; eight = eight; chosen = refl } })
+last_ack_home b me home from set owner acks d left h eight small to c =
+    rw (h, last acks h) (
+      calm HomeRw set owner (acks - 1) ReadWrite d,
+      record {
+        end = refl;
+        here = refl;
+        seen = rw (not_more acks h);
+        sends = refl;
+        kept = refl;
+        freed = refl;
+        woke = refl;
+        fits = record { rest = tt; left = refl; tag = refl; eight = eight; chosen = refl };
+      },
+    )
 
-pub last_ack_rw : (b me home from : ℕ) (set : List Bool) (owner acks : ℕ) (d : Data) → (left : ℕ) → (a : ℕ) → nat_lt 1 acks ≡ false → length set ≡ 8 → from < 8 → Row b me home (holding HomeAcks (OfRw a) left set owner acks ReadOnly d) cases.Ack from None
+pub last_ack_rw : (b me home from : ℕ) (set : List Bool) (owner acks : ℕ) (d : Data) → (left : ℕ) → (a : ℕ) →
+    nat_lt 1 acks ≡ false → length set ≡ 8 → from < 8 → Row b me home
+    (holding HomeAcks (OfRw a) left set owner acks ReadOnly d) cases.Ack from None
 unfolding states_l payload_of
-last_ack_rw b me home from set owner acks d left a h eight small to c = rw (h, last acks h) (calm HomeExcl set a (acks - 1) Invalid d, record { end = refl; here = refl; seen = rw (not_more acks h); sends = refl; kept = refl; freed = refl; woke = refl; fits = record { rest = tt; left = refl; tag = refl; eight = eight; chosen = refl } })
+last_ack_rw b me home from set owner acks d left a h eight small to c =
+    rw (h, last acks h) (
+      calm HomeExcl set a (acks - 1) Invalid d,
+      record {
+        end = refl;
+        here = refl;
+        seen = rw (not_more acks h);
+        sends = refl;
+        kept = refl;
+        freed = refl;
+        woke = refl;
+        fits = record { rest = tt; left = refl; tag = refl; eight = eight; chosen = refl };
+      },
+    )
 
-pub more_acks_ro : (b me home from : ℕ) (set : List Bool) (owner acks : ℕ) (d : Data) → (left : ℕ) → left ≡ 1 → (k a : ℕ) → a < 8 → nat_lt 1 acks ≡ true → length set ≡ 8 → from < 8 → Row b me home (waiting (OfRo a) left k set owner acks d) cases.Ack from None
+pub more_acks_ro : (b me home from : ℕ) (set : List Bool) (owner acks : ℕ) (d : Data) → (left : ℕ) → left ≡ 1 → (k a : ℕ) →
+    a < 8 → nat_lt 1 acks ≡ true → length set ≡ 8 → from < 8 →
+    Row b me home (waiting (OfRo a) left k set owner acks d) cases.Ack from None
 unfolding states_l payload_of
-more_acks_ro b me home from set owner acks d left fit k a few h eight small to c = rw (h, more acks h) (waiting (OfRo a) left k set owner (acks - 1) d, record { end = refl; here = refl; seen = refl; sends = refl; kept = refl; freed = refl; woke = refl; fits = record { rest = few; left = fit; tag = refl; eight = eight; chosen = tt } })
+more_acks_ro b me home from set owner acks d left fit k a few h eight small to c =
+    rw (h, more acks h) (
+      waiting (OfRo a) left k set owner (acks - 1) d,
+      record {
+        end = refl;
+        here = refl;
+        seen = refl;
+        sends = refl;
+        kept = refl;
+        freed = refl;
+        woke = refl;
+        fits = record { rest = few; left = fit; tag = refl; eight = eight; chosen = tt };
+      },
+    )
 
-pub last_ack_ro : (b me home from : ℕ) (set : List Bool) (owner acks : ℕ) (d : Data) → (left : ℕ) → left ≡ 1 → (k a : ℕ) → a < 8 → nat_lt 1 acks ≡ false → length set ≡ 8 → from < 8 → Row b me home (waiting (OfRo a) left k set owner acks d) cases.Ack from None
+pub last_ack_ro : (b me home from : ℕ) (set : List Bool) (owner acks : ℕ) (d : Data) → (left : ℕ) → left ≡ 1 → (k a : ℕ) →
+    a < 8 → nat_lt 1 acks ≡ false → length set ≡ 8 → from < 8 →
+    Row b me home (waiting (OfRo a) left k set owner acks d) cases.Ack from None
 unfolding states_l payload_of
-last_ack_ro b me home from set owner acks d left fit k a few h eight small to c = rw (h, last acks h, fit) (calm HomeRo (with set a) owner (acks - 1) ReadOnly d, record { end = refl; here = refl; seen = rw (with-is set a eight few, not_more acks h); sends = refl; kept = refl; freed = refl; woke = refl; fits = record { rest = tt; left = refl; tag = refl; eight = with-eight set a eight; chosen = refl } })
+last_ack_ro b me home from set owner acks d left fit k a few h eight small to c =
+    rw (h, last acks h, fit) (
+      calm HomeRo (with set a) owner (acks - 1) ReadOnly d,
+      record {
+        end = refl;
+        here = refl;
+        seen = rw (with-is set a eight few, not_more acks h);
+        sends = refl;
+        kept = refl;
+        freed = refl;
+        woke = refl;
+        fits = record {
+          rest = tt;
+          left = refl;
+          tag = refl;
+          eight = with-eight set a eight;
+          chosen = refl;
+        };
+      },
+    )
 
-pub put_home : (b me home from : ℕ) (set : List Bool) (owner acks : ℕ) (d : Data) (w : Data) → (left : ℕ) → length set ≡ 8 → from < 8 → Row b me home (holding HomePut OfHome left set owner acks Invalid d) cases.Put from (Some w)
+pub put_home : (b me home from : ℕ) (set : List Bool) (owner acks : ℕ) (d : Data) (w : Data) → (left : ℕ) → length set ≡ 8 →
+    from < 8 → Row b me home (holding HomePut OfHome left set owner acks Invalid d) cases.Put from (Some w)
 unfolding states_l payload_of
-put_home b me home from set owner acks d w left eight small to c = (calm HomeRw set owner acks ReadWrite w, record { end = refl; here = refl; seen = refl; sends = refl; kept = refl; freed = refl; woke = refl; fits = record { rest = tt; left = refl; tag = refl; eight = eight; chosen = refl } })
+put_home b me home from set owner acks d w left eight small to c = (
+  calm HomeRw set owner acks ReadWrite w,
+  record {
+    end = refl;
+    here = refl;
+    seen = refl;
+    sends = refl;
+    kept = refl;
+    freed = refl;
+    woke = refl;
+    fits = record { rest = tt; left = refl; tag = refl; eight = eight; chosen = refl };
+  },
+)
 
-pub put_ro : (b me home from : ℕ) (set : List Bool) (owner acks : ℕ) (d : Data) (w : Data) → (left : ℕ) → (a : ℕ) → a < 8 → length set ≡ 8 → from < 8 → Row b me home (holding HomePut (OfRo a) left set owner acks Invalid d) cases.Put from (Some w)
+pub put_ro : (b me home from : ℕ) (set : List Bool) (owner acks : ℕ) (d : Data) (w : Data) → (left : ℕ) → (a : ℕ) → a < 8 →
+    length set ≡ 8 → from < 8 → Row b me home (holding HomePut (OfRo a) left set owner acks Invalid d) cases.Put from (Some w)
 unfolding states_l payload_of
-put_ro b me home from set owner acks d w left a few eight small to c = (calm HomeRo (with empty a) owner acks ReadOnly w, record { end = refl; here = refl; seen = rw (with-is empty a empty-eight few, empty-is); sends = refl; kept = refl; freed = refl; woke = refl; fits = record { rest = tt; left = refl; tag = refl; eight = with-eight empty a empty-eight; chosen = refl } })
+put_ro b me home from set owner acks d w left a few eight small to c = (
+  calm HomeRo (with empty a) owner acks ReadOnly w,
+  record {
+    end = refl;
+    here = refl;
+    seen = rw (with-is empty a empty-eight few, empty-is);
+    sends = refl;
+    kept = refl;
+    freed = refl;
+    woke = refl;
+    fits = record { rest = tt; left = refl; tag = refl; eight = with-eight empty a empty-eight; chosen = refl };
+  },
+)
 
-pub put_rw : (b me home from : ℕ) (set : List Bool) (owner acks : ℕ) (d : Data) (w : Data) → (left : ℕ) → (a : ℕ) → length set ≡ 8 → from < 8 → Row b me home (holding HomePut (OfRw a) left set owner acks Invalid d) cases.Put from (Some w)
+pub put_rw : (b me home from : ℕ) (set : List Bool) (owner acks : ℕ) (d : Data) (w : Data) → (left : ℕ) → (a : ℕ) →
+    length set ≡ 8 → from < 8 → Row b me home (holding HomePut (OfRw a) left set owner acks Invalid d) cases.Put from (Some w)
 unfolding states_l payload_of
-put_rw b me home from set owner acks d w left a eight small to c = (calm HomeExcl set a acks Invalid w, record { end = refl; here = refl; seen = refl; sends = refl; kept = refl; freed = refl; woke = refl; fits = record { rest = tt; left = refl; tag = refl; eight = eight; chosen = refl } })
+put_rw b me home from set owner acks d w left a eight small to c = (
+  calm HomeExcl set a acks Invalid w,
+  record {
+    end = refl;
+    here = refl;
+    seen = refl;
+    sends = refl;
+    kept = refl;
+    freed = refl;
+    woke = refl;
+    fits = record { rest = tt; left = refl; tag = refl; eight = eight; chosen = refl };
+  },
+)
 
-pub rd_fault_at_cache_inv : (b me home : ℕ) (set : List Bool) (owner acks : ℕ) (d : Data) → length set ≡ 8 → Row b me home (calm CacheInv set owner acks Invalid d) cases.RdFault me None
+pub rd_fault_at_cache_inv : (b me home : ℕ) (set : List Bool) (owner acks : ℕ) (d : Data) → length set ≡ 8 →
+    Row b me home (calm CacheInv set owner acks Invalid d) cases.RdFault me None
 unfolding states_l payload_of
-rd_fault_at_cache_inv b me home set owner acks d eight to c = (holding CacheWaitRo OfCache 5 set owner acks Invalid d, record { end = refl; here = refl; seen = refl; sends = refl; kept = refl; freed = refl; woke = refl; fits = record { rest = tt; left = refl; tag = refl; eight = eight; chosen = refl } })
+rd_fault_at_cache_inv b me home set owner acks d eight to c = (
+  holding CacheWaitRo OfCache 5 set owner acks Invalid d,
+  record {
+    end = refl;
+    here = refl;
+    seen = refl;
+    sends = refl;
+    kept = refl;
+    freed = refl;
+    woke = refl;
+    fits = record { rest = tt; left = refl; tag = refl; eight = eight; chosen = refl };
+  },
+)
 
-pub wr_fault_at_cache_inv : (b me home : ℕ) (set : List Bool) (owner acks : ℕ) (d : Data) → length set ≡ 8 → Row b me home (calm CacheInv set owner acks Invalid d) cases.WrFault me None
+pub wr_fault_at_cache_inv : (b me home : ℕ) (set : List Bool) (owner acks : ℕ) (d : Data) → length set ≡ 8 →
+    Row b me home (calm CacheInv set owner acks Invalid d) cases.WrFault me None
 unfolding states_l payload_of
-wr_fault_at_cache_inv b me home set owner acks d eight to c = (holding CacheWaitRw OfCache 5 set owner acks Invalid d, record { end = refl; here = refl; seen = refl; sends = refl; kept = refl; freed = refl; woke = refl; fits = record { rest = tt; left = inl refl; tag = refl; eight = eight; chosen = refl } })
+wr_fault_at_cache_inv b me home set owner acks d eight to c = (
+  holding CacheWaitRw OfCache 5 set owner acks Invalid d,
+  record {
+    end = refl;
+    here = refl;
+    seen = refl;
+    sends = refl;
+    kept = refl;
+    freed = refl;
+    woke = refl;
+    fits = record { rest = tt; left = inl refl; tag = refl; eight = eight; chosen = refl };
+  },
+)
 
-pub wr_fault_at_cache_ro : (b me home : ℕ) (set : List Bool) (owner acks : ℕ) (d : Data) → length set ≡ 8 → Row b me home (calm CacheRo set owner acks ReadOnly d) cases.WrFault me None
+pub wr_fault_at_cache_ro : (b me home : ℕ) (set : List Bool) (owner acks : ℕ) (d : Data) → length set ≡ 8 →
+    Row b me home (calm CacheRo set owner acks ReadOnly d) cases.WrFault me None
 unfolding states_l payload_of
-wr_fault_at_cache_ro b me home set owner acks d eight to c = (holding CacheWaitRw OfCache 6 set owner acks Invalid d, record { end = refl; here = refl; seen = refl; sends = refl; kept = refl; freed = refl; woke = refl; fits = record { rest = tt; left = inr refl; tag = refl; eight = eight; chosen = refl } })
+wr_fault_at_cache_ro b me home set owner acks d eight to c = (
+  holding CacheWaitRw OfCache 6 set owner acks Invalid d,
+  record {
+    end = refl;
+    here = refl;
+    seen = refl;
+    sends = refl;
+    kept = refl;
+    freed = refl;
+    woke = refl;
+    fits = record { rest = tt; left = inr refl; tag = refl; eight = eight; chosen = refl };
+  },
+)
 
-pub inv_at_cache_ro : (b me home from : ℕ) (set : List Bool) (owner acks : ℕ) (d : Data) → length set ≡ 8 → from < 8 → Row b me home (calm CacheRo set owner acks ReadOnly d) cases.Inv from None
+pub inv_at_cache_ro : (b me home from : ℕ) (set : List Bool) (owner acks : ℕ) (d : Data) → length set ≡ 8 → from < 8 →
+    Row b me home (calm CacheRo set owner acks ReadOnly d) cases.Inv from None
 unfolding states_l payload_of
-inv_at_cache_ro b me home from set owner acks d eight small to c = (calm CacheInv set owner acks Invalid d, record { end = refl; here = refl; seen = refl; sends = refl; kept = refl; freed = refl; woke = refl; fits = record { rest = tt; left = refl; tag = refl; eight = eight; chosen = refl } })
+inv_at_cache_ro b me home from set owner acks d eight small to c = (
+  calm CacheInv set owner acks Invalid d,
+  record {
+    end = refl;
+    here = refl;
+    seen = refl;
+    sends = refl;
+    kept = refl;
+    freed = refl;
+    woke = refl;
+    fits = record { rest = tt; left = refl; tag = refl; eight = eight; chosen = refl };
+  },
+)
 
-pub recall_at_cache_rw : (b me home from : ℕ) (set : List Bool) (owner acks : ℕ) (d : Data) → length set ≡ 8 → from < 8 → Row b me home (calm CacheRw set owner acks ReadWrite d) cases.Recall from None
+pub recall_at_cache_rw : (b me home from : ℕ) (set : List Bool) (owner acks : ℕ) (d : Data) → length set ≡ 8 → from < 8 →
+    Row b me home (calm CacheRw set owner acks ReadWrite d) cases.Recall from None
 unfolding states_l payload_of
-recall_at_cache_rw b me home from set owner acks d eight small to c = (calm CacheInv set owner acks Invalid d, record { end = refl; here = refl; seen = refl; sends = refl; kept = refl; freed = refl; woke = refl; fits = record { rest = tt; left = refl; tag = refl; eight = eight; chosen = refl } })
+recall_at_cache_rw b me home from set owner acks d eight small to c = (
+  calm CacheInv set owner acks Invalid d,
+  record {
+    end = refl;
+    here = refl;
+    seen = refl;
+    sends = refl;
+    kept = refl;
+    freed = refl;
+    woke = refl;
+    fits = record { rest = tt; left = refl; tag = refl; eight = eight; chosen = refl };
+  },
+)
 
-pub data_ro_came : (b me home from : ℕ) (set : List Bool) (owner acks : ℕ) (d : Data) (w : Data) → (left : ℕ) → length set ≡ 8 → from < 8 → Row b me home (holding CacheWaitRo OfCache left set owner acks Invalid d) cases.DataRo from (Some w)
+pub data_ro_came : (b me home from : ℕ) (set : List Bool) (owner acks : ℕ) (d : Data) (w : Data) → (left : ℕ) →
+    length set ≡ 8 → from < 8 → Row b me home (holding CacheWaitRo OfCache left set owner acks Invalid d) cases.DataRo from
+    (Some w)
 unfolding states_l payload_of
-data_ro_came b me home from set owner acks d w left eight small to c = (calm CacheRo set owner acks ReadOnly w, record { end = refl; here = refl; seen = refl; sends = refl; kept = refl; freed = refl; woke = refl; fits = record { rest = tt; left = refl; tag = refl; eight = eight; chosen = refl } })
+data_ro_came b me home from set owner acks d w left eight small to c = (
+  calm CacheRo set owner acks ReadOnly w,
+  record {
+    end = refl;
+    here = refl;
+    seen = refl;
+    sends = refl;
+    kept = refl;
+    freed = refl;
+    woke = refl;
+    fits = record { rest = tt; left = refl; tag = refl; eight = eight; chosen = refl };
+  },
+)
 
-pub data_rw_came : (b me home from : ℕ) (set : List Bool) (owner acks : ℕ) (d : Data) (w : Data) → (left : ℕ) → length set ≡ 8 → from < 8 → Row b me home (holding CacheWaitRw OfCache left set owner acks Invalid d) cases.DataRw from (Some w)
+pub data_rw_came : (b me home from : ℕ) (set : List Bool) (owner acks : ℕ) (d : Data) (w : Data) → (left : ℕ) →
+    length set ≡ 8 → from < 8 → Row b me home (holding CacheWaitRw OfCache left set owner acks Invalid d) cases.DataRw from
+    (Some w)
 unfolding states_l payload_of
-data_rw_came b me home from set owner acks d w left eight small to c = (calm CacheRw set owner acks ReadWrite w, record { end = refl; here = refl; seen = refl; sends = refl; kept = refl; freed = refl; woke = refl; fits = record { rest = tt; left = refl; tag = refl; eight = eight; chosen = refl } })
+data_rw_came b me home from set owner acks d w left eight small to c = (
+  calm CacheRw set owner acks ReadWrite w,
+  record {
+    end = refl;
+    here = refl;
+    seen = refl;
+    sends = refl;
+    kept = refl;
+    freed = refl;
+    woke = refl;
+    fits = record { rest = tt; left = refl; tag = refl; eight = eight; chosen = refl };
+  },
+)
 
-pub inv_at_cache_wait_rw : (b me home from : ℕ) (set : List Bool) (owner acks : ℕ) (d : Data) → (left : ℕ) → LeftFits CacheWaitRw left → length set ≡ 8 → from < 8 → Row b me home (holding CacheWaitRw OfCache left set owner acks Invalid d) cases.Inv from None
+pub inv_at_cache_wait_rw : (b me home from : ℕ) (set : List Bool) (owner acks : ℕ) (d : Data) → (left : ℕ) →
+    LeftFits CacheWaitRw left → length set ≡ 8 → from < 8 → Row b me home
+    (holding CacheWaitRw OfCache left set owner acks Invalid d) cases.Inv from None
 unfolding states_l payload_of
-inv_at_cache_wait_rw b me home from set owner acks d left fit eight small to c = (holding CacheWaitRw OfCache left set owner acks Invalid d, record { end = refl; here = refl; seen = refl; sends = refl; kept = refl; freed = refl; woke = refl; fits = record { rest = tt; left = fit; tag = refl; eight = eight; chosen = refl } })
+inv_at_cache_wait_rw b me home from set owner acks d left fit eight small to c = (
+  holding CacheWaitRw OfCache left set owner acks Invalid d,
+  record {
+    end = refl;
+    here = refl;
+    seen = refl;
+    sends = refl;
+    kept = refl;
+    freed = refl;
+    woke = refl;
+    fits = record { rest = tt; left = fit; tag = refl; eight = eight; chosen = refl };
+  },
+)

@@ -1,4 +1,5 @@
--- A block under Stache_L, as it stands at a node and as the table speaks of it: as under Stache, with the variable that the rest of a GET_RO has.
+-- A block under Stache_L, as it stands at a node and as the table speaks of it: as under Stache, with the variable that the
+-- rest of a GET_RO has.
 use Rattle.std.specs.Prelude.{ℕ, ◌≡◌, ◌<◌, List, [], ◌∷◌, length, map, Option, Some, None, codes, false}
 use Rattle.tw_base.specs.declared.entry.End.{End}
 use Rattle.tw_base.specs.declared.entry.End.TheVariants.{Fine, Failed}
@@ -19,11 +20,20 @@ use Rattle.teapot_meaning.specs.declared.state.Here.{Here}
 use Rattle.teapot_meaning.specs.declared.state.Kept.TheVariants as real_kept
 use Rattle.teapot_meaning.specs.declared.state.StateVal.{out-StateVal}
 use Rattle.block_spots.specs.Cases as cases
-use Rattle.block_spots.specs.Cases.{HomeRw, HomeRo, HomeExcl, HomeAcks, HomePut, CacheInv, CacheRo, CacheRw, CacheWaitRo, CacheWaitRw, NoRest, OfHome, OfRo, OfRw, OfCache, Effect}
+use Rattle.block_spots.specs.Cases.{HomeRw, HomeRo, HomeExcl, HomeAcks, HomePut, CacheInv, CacheRo, CacheRw, CacheWaitRo}
+use Rattle.block_spots.specs.Cases.{CacheWaitRw, NoRest, OfRo, OfRw, Effect}
 use Rattle.stache_tree.specs.Code.{Code}
-use Rattle.stache_tree.specs.Tree.{on_with, cache_inv_else, cache_inv_on_rd_fault, cache_inv_on_wr_fault, cache_ro_else, cache_ro_on_inv, cache_ro_on_wr_fault, cache_rw_else, cache_rw_on_recall, cache_wait_ro_else, cache_wait_ro_on_data_ro, cache_wait_rw_else, cache_wait_rw_on_data_rw, cache_wait_rw_on_inv, home_acks_else, home_acks_on_ack, home_excl_else, home_excl_on_get_ro, home_excl_on_get_rw, home_excl_on_rd_fault, home_excl_on_wr_fault, home_put_else, home_put_on_put, home_ro_else, home_ro_on_get_rw, home_ro_on_rd_fault, home_ro_on_wr_fault, home_rw_else, home_rw_on_get_ro, home_rw_on_get_rw, home_rw, home_excl, home_acks, home_put, cache_inv, cache_ro, cache_rw, cache_wait_ro, cache_wait_rw}
+use Rattle.stache_tree.specs.Tree.{on_with, cache_inv_else, cache_inv_on_rd_fault, cache_inv_on_wr_fault, cache_ro_else}
+use Rattle.stache_tree.specs.Tree.{cache_ro_on_inv, cache_ro_on_wr_fault, cache_rw_else, cache_rw_on_recall, cache_wait_ro_else}
+use Rattle.stache_tree.specs.Tree.{cache_wait_ro_on_data_ro, cache_wait_rw_else, cache_wait_rw_on_data_rw, cache_wait_rw_on_inv}
+use Rattle.stache_tree.specs.Tree.{home_acks_else, home_acks_on_ack, home_excl_else, home_excl_on_get_ro, home_excl_on_get_rw}
+use Rattle.stache_tree.specs.Tree.{home_excl_on_rd_fault, home_excl_on_wr_fault, home_put_else, home_put_on_put, home_ro_else}
+use Rattle.stache_tree.specs.Tree.{home_ro_on_get_rw, home_ro_on_rd_fault, home_ro_on_wr_fault, home_rw_else, home_rw_on_get_ro}
+use Rattle.stache_tree.specs.Tree.{home_rw_on_get_rw, home_rw, home_excl, home_acks, home_put, cache_inv, cache_ro, cache_rw}
+use Rattle.stache_tree.specs.Tree.{cache_wait_ro, cache_wait_rw}
 use Rattle.stache_table.specs.Blocks as stache
-use Rattle.stache_table.specs.Blocks.{Door, LeftFits, came_message, kept_of, number_of, saved_by, seen, seen_out, serving, src, tag_at}
+use Rattle.stache_table.specs.Blocks.{Door, LeftFits, came_message, kept_of, number_of, saved_by, seen, seen_out, serving, src}
+use Rattle.stache_table.specs.Blocks.{tag_at}
 use Rattle.stache_table.specs.Runs.{Later, Run, here_in, over, play}
 use Rattle.stache_l_tree.specs.Tree.{stache_l, home_ro_l, home_ro_on_get_ro_l, victim}
 use Rattle.stache_l_table.specs.Handling.{handle_in}
@@ -103,7 +113,8 @@ vars_at _ _ from = src from
 
 -- a node's own faults are served for the node itself
 abbrev pub later_in : ℕ → cases.State → ℕ → ℕ → cases.Rest → Option Later
-later_in me HomeAcks left k (OfRo a) = Some (record { rest = rest_at HomeAcks (OfRo a); vars = src_and a k; came = None; state = left })
+later_in me HomeAcks left k (OfRo a) =
+    Some (record { rest = rest_at HomeAcks (OfRo a); vars = src_and a k; came = None; state = left })
 later_in me s left k NoRest = None
 later_in me s left k (OfRo a) = serving (rest_at s (OfRo a)) a left
 later_in me s left k (OfRw a) = serving (rest_at s (OfRw a)) a left

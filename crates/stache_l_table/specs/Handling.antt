@@ -1,9 +1,12 @@
--- Stache_L by cases: what a message does to a block. A reader that meets two sharers first has the copy of one of them invalidated; all else is as
--- in Stache.
+-- Stache_L by cases: what a message does to a block. A reader that meets two sharers first has the copy of one of them
+-- invalidated; all else is as in Stache.
 use Rattle.std.specs.Prelude.{ℕ, zero, suc, ◌-◌, ◌==◌, Bool, true, false, if◌then◌else◌, nat_lt, [], ◌∷◌, Option}
-use Rattle.block_spots.specs.Cases.{Kind, GetRo, DataRo, Inv, Ack, State, HomeRw, HomeRo, HomeExcl, HomeAcks, HomePut, CacheInv, CacheRo, CacheRw, CacheWaitRo, CacheWaitRw, Rest, NoRest, OfRo, Message, Here, Effect, Table, with_node, without_node, members}
+use Rattle.block_spots.specs.Cases.{Kind, GetRo, DataRo, Inv, Ack, State, HomeRw, HomeRo, HomeExcl, HomeAcks, HomePut, CacheInv}
+use Rattle.block_spots.specs.Cases.{CacheRo, CacheRw, CacheWaitRo, CacheWaitRw, Rest, NoRest, OfRo, Message, Here, Effect}
+use Rattle.block_spots.specs.Cases.{Table, with_node, without_node, members}
 use Rattle.stache_table.specs.Handling as stache
-use Rattle.stache_table.specs.Handling.{carrying, plain, goes, defers, home_rw, home_excl, home_put, cache_inv, cache_ro, cache_rw, cache_wait_ro, cache_wait_rw}
+use Rattle.stache_table.specs.Handling.{carrying, plain, goes, defers, home_rw, home_excl, home_put, cache_inv, cache_ro}
+use Rattle.stache_table.specs.Handling.{cache_rw, cache_wait_ro, cache_wait_rw}
 
 -- the member of greatest number among the first n, 0 where there is none
 abbrev pub greatest : ℕ → (ℕ → Bool) → ℕ
@@ -26,7 +29,8 @@ home_ro n me h m k = stache.home_ro n me h m k
 -- the reader that waited for the copy of another: it and the sharer that stayed are the sharers
 abbrev pub share_ro : ℕ → ℕ → ℕ → Here → Option Effect
 share_ro me b asker h =
-    goes (record h { state = HomeRo; rest = NoRest; sharers = with_node h.sharers asker }) (carrying DataRo b me asker h.words ∷ []) true false
+    goes (record h { state = HomeRo; rest = NoRest; sharers = with_node h.sharers asker })
+    (carrying DataRo b me asker h.words ∷ []) true false
 
 abbrev pub last_ack : ℕ → Here → Message → Rest → Option Effect
 last_ack me h m (OfRo a) = share_ro me m.block a (record h { acks = 0 })

@@ -1,5 +1,6 @@
--- The tree of Stache_L, with every line 0: what it changes of Stache, and all else as Stache has it. At most two caches hold a block read-only:
--- before a third may read, the copy of one of the two is invalidated (in the literature, a limited directory, without broadcast).
+-- The tree of Stache_L, with every line 0: what it changes of Stache, and all else as Stache has it. At most two caches hold a
+-- block read-only: before a third may read, the copy of one of the two is invalidated (in the literature, a limited directory,
+-- without broadcast).
 use Rattle.std.specs.Prelude.{◌≡◌, List, [], ◌∷◌, None, true, false, codes}
 use Rattle.tw_base.specs.declared.message.Chan.TheVariants as chan
 use Rattle.tw_base.specs.declared.value.Tag.TheVariants.{Invalid, ReadWrite}
@@ -11,7 +12,9 @@ use Rattle.teapot_tree.specs.declared.protocol.State.{State}
 use Rattle.teapot_tree.specs.declared.protocol.Trigger.TheVariants.{RdFault, WrFault, Named, Default}
 use Rattle.teapot_tree.specs.declared.protocol.ValType.TheVariants as ty
 use Rattle.stache_tree.specs.Code.{Code, Done, Assign, When, Last, Send, Suspend, Number, Src, Var, Count, Two}
-use Rattle.stache_tree.specs.Tree.{message, starts_in, info, on, on_with, state, cache_inv, cache_ro, cache_rw, cache_wait_ro, cache_wait_rw, home_acks, home_excl, home_put, home_ro_else, home_ro_on_get_rw, home_ro_on_rd_fault, home_ro_on_wr_fault, home_rw}
+use Rattle.stache_tree.specs.Tree.{message, starts_in, info, on, on_with, state, cache_inv, cache_ro, cache_rw, cache_wait_ro}
+use Rattle.stache_tree.specs.Tree.{cache_wait_rw, home_acks, home_excl, home_put, home_ro_else, home_ro_on_get_rw}
+use Rattle.stache_tree.specs.Tree.{home_ro_on_rd_fault, home_ro_on_wr_fault, home_rw}
 
 -- the sharer whose copy is to go
 abbrev pub victim : List Param
@@ -42,8 +45,10 @@ stache_l = record {
   profile = 2;
   line = 0;
   messages =
-      message (codes "GET_RO") chan.Zero false ∷ message (codes "GET_RW") chan.Zero false ∷ message (codes "DATA_RO") chan.One true ∷ message (codes "DATA_RW") chan.One true
-      ∷ message (codes "PUT") chan.One true ∷ message (codes "INV") chan.One false ∷ message (codes "ACK") chan.One false ∷ message (codes "RECALL") chan.One false ∷ [];
+      message (codes "GET_RO") chan.Zero false ∷ message (codes "GET_RW") chan.Zero false ∷ message
+      (codes "DATA_RO") chan.One true ∷ message (codes "DATA_RW") chan.One true
+      ∷ message (codes "PUT") chan.One true ∷ message (codes "INV") chan.One false ∷ message
+      (codes "ACK") chan.One false ∷ message (codes "RECALL") chan.One false ∷ [];
   infos = info (codes "sharers") ty.Set ∷ info (codes "owner") ty.Node ∷ info (codes "acks") ty.Int ∷ [];
   starts = starts_in true (codes "Home_RW") ReadWrite ∷ starts_in false (codes "Cache_Inv") Invalid ∷ [];
   states = states_l;

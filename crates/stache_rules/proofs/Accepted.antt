@@ -29,14 +29,17 @@ no_zeros [] h = refl
 no_zeros (x ∷ xs) h = absurd cc
 
 -- what is told is a tree and breaks no rule: so each protocol that is this one but for line numbers
-pub accepted-as : (l : Protocol) (ts : List Told) → l.states ≡ map state_of ts → IsTree l → ((r : Rule) → lines l r ≡ []) → (p : Protocol) → bare_protocol p ≡ l → IsAccepted p
+pub accepted-as : (l : Protocol) (ts : List Told) → l.states ≡ map state_of ts → IsTree l → ((r : Rule) → lines l r ≡ []) →
+    (p : Protocol) → bare_protocol p ≡ l → IsAccepted p
 accepted-as l ts told tree none p is = record { tree = is_tree; keeps = keeps }
   where
     bare : Each (λ (s : State). s.params ≡ []) (bare_protocol p).states
     bare = subst (λ ss. Each (λ (s : State). s.params ≡ []) ss) (sym (ap (λ q. q.states) is ∙ told)) (no-params ts)
 
     is_tree : IsTree p
-    is_tree = tree-as p (subst IsTree (sym is) tree) (each-back bare_state (λ (s : State). s.params ≡ []) OnOneLine (λ s h. one_line s.line s.params h) p.states bare)
+    is_tree =
+        tree-as p (subst IsTree (sym is) tree) (each-back bare_state (λ (s : State). s.params ≡ []) OnOneLine
+        (λ s h. one_line s.line s.params h) p.states bare)
 
     no_lines : (r : Rule) → lines p r ≡ []
     no_lines r = no_zeros (lines p r) (sym (lines-zeros p r) ∙ (ap (λ q. lines q r) is ∙ none r))

@@ -4,13 +4,15 @@ use Rattle.std.specs.List.{flat_map, list_all}
 use Rattle.std.proofs.lemmas.List.{map-append}
 use Rattle.tw_base.specs.declared.name.Name.{Name}
 use Rattle.teapot_tree.specs.declared.protocol.ValType.TheVariants.{Node, Set, Bool as Truth}
-use Rattle.teapot_tree.specs.Bodies.{Simple, assign, send, send_all, set_tag, set_state, suspend, resume, install, enqueue, wake_up, error, body_of}
+use Rattle.teapot_tree.specs.Bodies.{Simple, assign, send, send_all, set_tag, set_state, suspend, resume, install, enqueue}
+use Rattle.teapot_tree.specs.Bodies.{wake_up, error, body_of}
 use Rattle.teapot_tree.specs.Paths.{Deed, does, tests, repeats, Step, step, steps_in}
 use Rattle.teapot_tree.specs.Rules.{are_fit, has_wrong_type, is_fit, is_message, message_types, uses_undeclared}
 use Rattle.teapot_tree.specs.Scopes.{Scope, assignable, is_among, is_of, locals_in, type_among, visible}
 use Rattle.teapot_rules.specs.Lists.{line_if}
 use Rattle.teapot_rules.specs.Walks.{step_lines}
-use Rattle.stache_tree.specs.Code.{Code, Term, Done, Assign, When, Last, Send, SendAll, SetTag, SetState, Suspend, Resume, Error, Install, Enqueue, WakeUp, expr_of, label, stmts_of}
+use Rattle.stache_tree.specs.Code.{Code, Term, Done, Assign, When, Last, Send, SendAll, SetTag, SetState, Suspend, Resume}
+use Rattle.stache_tree.specs.Code.{Error, Install, Enqueue, WakeUp, expr_of, label, stmts_of}
 use Rattle.stache_tree.proofs.Bodies.{body-is, code_body}
 use Rattle.stache_rules.proofs.Terms.{term-names, term-type, term_names, term_type}
 
@@ -51,7 +53,8 @@ step_of a = step 0 (deed_of a)
 steps-are : (c : Code) → steps_in (code_body c) ≡ map step_of (acts c)
 steps-are Done = refl
 steps-are (Assign name e c) = ap (λ z. step_of (sets name e) ∷ z) (steps-are c)
-steps-are (When e first c) = ap (λ z. step_of (asks e) ∷ z) ((λ i. steps-are first i ++ steps-are c i) ∙ sym (map-append step_of (acts first) (acts c)))
+steps-are (When e first c) = ap (λ z. step_of (asks e) ∷ z) ((λ i. steps-are first i ++ steps-are c i)
+    ∙ sym (map-append step_of (acts first) (acts c)))
 steps-are (Last name e c) = ap (λ z. step_of (lasts name e) ∷ z) (steps-are c)
 steps-are (Send to name c) = ap (λ z. step_of (sends to name) ∷ z) (steps-are c)
 steps-are (SendAll to name c) = ap (λ z. step_of (sends_all to name) ∷ z) (steps-are c)
@@ -64,18 +67,21 @@ steps-are (Install c) = ap (λ z. step_of (other install) ∷ z) (steps-are c)
 steps-are (Enqueue c) = ap (λ z. step_of (other enqueue) ∷ z) (steps-are c)
 steps-are (WakeUp c) = ap (λ z. step_of (other wake_up) ∷ z) (steps-are c)
 
-pub flat-as : {X Y : Type 0} (f : X → Y) (g : Y → List ℕ) (h : X → List ℕ) → ((x : X) → g (f x) ≡ h x) → (xs : List X) → flat_map g (map f xs) ≡ flat_map h xs
+pub flat-as : {X Y : Type 0} (f : X → Y) (g : Y → List ℕ) (h : X → List ℕ) → ((x : X) → g (f x) ≡ h x) → (xs : List X) →
+    flat_map g (map f xs) ≡ flat_map h xs
 flat-as f g h e [] = refl
 flat-as f g h e (x ∷ xs) = λ i. e x i ++ flat-as f g h e xs i
 
 abbrev pub act_lines : (Act → Bool) → Code → List ℕ
 act_lines test c = flat_map (λ a. line_if (test a) 0) (acts c)
 
-lines-are : (test : Deed → Bool) (own : Act → Bool) → ((a : Act) → test (deed_of a) ≡ own a) → (c : Code) → step_lines test (body_of (stmts_of c)) ≡ act_lines own c
+lines-are : (test : Deed → Bool) (own : Act → Bool) → ((a : Act) → test (deed_of a) ≡ own a) → (c : Code) →
+    step_lines test (body_of (stmts_of c)) ≡ act_lines own c
 lines-are test own e c =
     ap (step_lines test) (body-is c)
     ∙ (ap (λ z. flat_map (λ (s : Step). line_if (test s.deed) s.line) z) (steps-are c)
-    ∙ flat-as step_of (λ (s : Step). line_if (test s.deed) s.line) (λ a. line_if (own a) 0) (λ a. ap (λ v. line_if v 0) (e a)) (acts c))
+    ∙ flat-as step_of (λ (s : Step). line_if (test s.deed) s.line) (λ a. line_if (own a) 0) (λ a. ap (λ v. line_if v 0) (e a))
+    (acts c))
 
 -- ---- the tests
 

@@ -7,11 +7,14 @@ use Rattle.teapot_tree.specs.declared.protocol.Protocol.{Protocol}
 use Rattle.teapot_tree.specs.declared.protocol.Start.{Start}
 use Rattle.teapot_tree.specs.declared.protocol.State.{State}
 use Rattle.teapot_tree.specs.declared.rule.Rule.{Rule}
-use Rattle.teapot_tree.specs.declared.rule.Rule.TheVariants.{Undeclared, Twice, WrongType, ArgCount, NoDefault, ContDropped, ResumeNotLast, ResumeForeign, AfterSuspend, NoData, TooManySends, NotTwoStarts}
+use Rattle.teapot_tree.specs.declared.rule.Rule.TheVariants.{Undeclared, Twice, WrongType, ArgCount, NoDefault, ContDropped}
+use Rattle.teapot_tree.specs.declared.rule.Rule.TheVariants.{ResumeNotLast, ResumeForeign, AfterSuspend, NoData, TooManySends}
+use Rattle.teapot_tree.specs.declared.rule.Rule.TheVariants.{NotTwoStarts}
 use Rattle.teapot_tree.specs.Rules.{answers_undeclared, counts_wrongly, has_default, is_wrong_start, visible_names}
 use Rattle.teapot_tree.specs.Scopes.{Scope, state_of}
 use Rattle.teapot_rules.specs.Deeds.{breaks_at, comes_first}
-use Rattle.teapot_rules.specs.Faults.{again_handlers, again_messages, again_names, again_params, again_starts, again_states, body_lines, handler_lines, in_handlers, lines, names_cont}
+use Rattle.teapot_rules.specs.Faults.{again_handlers, again_messages, again_names, again_params, again_starts, again_states}
+use Rattle.teapot_rules.specs.Faults.{body_lines, handler_lines, in_handlers, lines, names_cont}
 use Rattle.teapot_rules.specs.Lists.{line_if}
 use Rattle.teapot_rules.specs.Walks.{most, walk}
 use Rattle.teapot_rules.proofs.Ruling.{walk_lines}
@@ -28,7 +31,8 @@ abbrev pub walked : Rule → Protocol → Told → Door → List ℕ
 walked r p t d = walk (comes_first r) (breaks_at (scope_at p t d) r) (code_body d.code) false false
 
 walked-is : (r : Rule) (p : Protocol) (t : Told) (d : Door) → body_lines r (scope_at p t d) ≡ walked r p t d
-walked-is r p t d = sym (walk_lines r (scope_at p t d)) ∙ ap (λ b. walk (comes_first r) (breaks_at (scope_at p t d) r) b false false) (body-is d.code)
+walked-is r p t d = sym (walk_lines r (scope_at p t d)) ∙ ap
+    (λ b. walk (comes_first r) (breaks_at (scope_at p t d) r) b false false) (body-is d.code)
 
 abbrev pub told_lines : Rule → Protocol → Told → Door → List ℕ
 told_lines Undeclared p t d = line_if (answers_undeclared p d.trigger) 0 ++ act_lines (undeclared (scope_at p t d)) d.code
@@ -45,7 +49,8 @@ told_lines TooManySends p t d = line_if (nat_lt 32 (most (code_body d.code))) 0
 told_lines NotTwoStarts p t d = []
 
 told-lines : (r : Rule) (p : Protocol) (t : Told) (d : Door) → handler_lines r (scope_at p t d) ≡ told_lines r p t d
-told-lines Undeclared p t d = ap (λ xs. line_if (answers_undeclared p d.trigger) 0 ++ xs) (undeclared-lines (scope_at p t d) d.code)
+told-lines Undeclared p t d = ap (λ xs. line_if (answers_undeclared p d.trigger) 0 ++ xs)
+    (undeclared-lines (scope_at p t d) d.code)
 told-lines Twice p t d = ap (λ xs. again_names (visible_names (scope_at p t d)) ++ xs) (walked-is Twice p t d)
 told-lines WrongType p t d = mistyped-lines (scope_at p t d) d.code
 told-lines ArgCount p t d = ap (λ xs. line_if (counts_wrongly p d.trigger []) 0 ++ xs) (walked-is ArgCount p t d)
@@ -61,12 +66,18 @@ told-lines NotTwoStarts p t d = refl
 unfoldable pub all_told : Rule → Protocol → List Told → List ℕ
 all_told r p ts = flat_map (λ (t : Told). flat_map (λ (d : Door). told_lines r p t d) t.doors) ts
 
-pub handlers-told : (r : Rule) (p : Protocol) (ts : List Told) → p.states ≡ map told_state ts → in_handlers (handler_lines r) p ≡ all_told r p ts
+pub handlers-told : (r : Rule) (p : Protocol) (ts : List Told) → p.states ≡ map told_state ts →
+    in_handlers (handler_lines r) p ≡ all_told r p ts
 unfolding all_told
 handlers-told r p ts e =
-    ap (λ ss. flat_map (λ (s : State). flat_map (λ (h : Handler). handler_lines r (record { protocol = p; state = s; handler = h })) s.handlers) ss) e
-    ∙ flat-as told_state (λ (s : State). flat_map (λ (h : Handler). handler_lines r (record { protocol = p; state = s; handler = h })) s.handlers) (λ (t : Told). flat_map (λ (d : Door). told_lines r p t d) t.doors)
-    (λ t. flat-as handler_of (λ (h : Handler). handler_lines r (record { protocol = p; state = told_state t; handler = h })) (λ (d : Door). told_lines r p t d) (λ d. told-lines r p t d) t.doors)
+    ap (λ ss. flat_map
+    (λ (s : State). flat_map (λ (h : Handler). handler_lines r (record { protocol = p; state = s; handler = h }))
+    s.handlers) ss) e
+    ∙ flat-as told_state
+    (λ (s : State). flat_map (λ (h : Handler). handler_lines r (record { protocol = p; state = s; handler = h }))
+    s.handlers) (λ (t : Told). flat_map (λ (d : Door). told_lines r p t d) t.doors)
+    (λ t. flat-as handler_of (λ (h : Handler). handler_lines r (record { protocol = p; state = told_state t; handler = h }))
+    (λ (d : Door). told_lines r p t d) (λ d. told-lines r p t d) t.doors)
     ts
 
 none-told : (r : Rule) → all_told r stache told ≡ []
@@ -99,14 +110,25 @@ pub record IsFineOutside (p : Protocol) : Type 0 where
 
 fine-outside : IsFineOutside stache
 unfolding states
-fine-outside = record { starts = refl; wrong = refl; messages = refl; infos = refl; states = refl; conts = refl; handlers = refl; defaults = refl; two = refl }
+fine-outside = record {
+  starts = refl;
+  wrong = refl;
+  messages = refl;
+  infos = refl;
+  states = refl;
+  conts = refl;
+  handlers = refl;
+  defaults = refl;
+  two = refl;
+}
 
 nothing : {xs ys : List ℕ} → xs ≡ [] → ys ≡ [] → xs ++ ys ≡ []
 nothing h k = λ i. h i ++ k i
 
 pub none : (p : Protocol) → IsFineOutside p → ((r : Rule) → in_handlers (handler_lines r) p ≡ []) → (r : Rule) → lines p r ≡ []
 none p out within Undeclared = nothing out.starts (within Undeclared)
-none p out within Twice = nothing out.messages (nothing out.infos (nothing out.states (nothing out.conts (nothing out.handlers (within Twice)))))
+none p out within Twice =
+    nothing out.messages (nothing out.infos (nothing out.states (nothing out.conts (nothing out.handlers (within Twice)))))
 none p out within WrongType = within WrongType
 none p out within ArgCount = nothing out.wrong (within ArgCount)
 none p out within NoDefault = out.defaults

@@ -13,12 +13,15 @@ use Rattle.teapot_tree.specs.declared.protocol.State.{State}
 use Rattle.teapot_tree.specs.Bare.{bare_handler, bare_message, bare_param, bare_protocol, bare_start, bare_state}
 use Rattle.teapot_tree.specs.Bodies.{Body, done, plain, branch, branches, loop, each, body_of}
 use Rattle.teapot_tree.specs.Grammar.{IsName, IsTree, NoDefaultArgs, OnOneLine}
-use Rattle.teapot_tree.specs.Parts.{depth, eaches, exprs_in, exprs_of, fits, handler_names, handlers_of, loops, names_in, names_of, nest, option_words, simple_exprs, simple_words, state_names, trigger_words, words_in}
+use Rattle.teapot_tree.specs.Parts.{depth, eaches, exprs_in, exprs_of, fits, handler_names, handlers_of, loops, names_in}
+use Rattle.teapot_tree.specs.Parts.{names_of, nest, option_words, simple_exprs, simple_words, state_names, trigger_words}
+use Rattle.teapot_tree.specs.Parts.{words_in}
 use Rattle.stache_rules.proofs.Unlined.{bare_body, body-bare}
 
 -- ---- lists
 
-pub each-back : {X Y : Type 0} (f : X → Y) (P : Y → Type 0) (Q : X → Type 0) → ((x : X) → P (f x) → Q x) → (xs : List X) → Each P (map f xs) → Each Q xs
+pub each-back : {X Y : Type 0} (f : X → Y) (P : Y → Type 0) (Q : X → Type 0) → ((x : X) → P (f x) → Q x) → (xs : List X) →
+    Each P (map f xs) → Each Q xs
 each-back f P Q g [] e = tt
 each-back f P Q g (x ∷ xs) e = (g x e.0, each-back f P Q g xs e.1)
 
@@ -26,7 +29,8 @@ map-same : {X Y : Type 0} (f : X → X) (g : X → Y) → ((x : X) → g (f x) �
 map-same f g e [] = refl
 map-same f g e (x ∷ xs) = λ i. e x i ∷ map-same f g e xs i
 
-flat-same : {X Y : Type 0} (f : X → X) (g : X → List Y) → ((x : X) → g (f x) ≡ g x) → (xs : List X) → flat_map g (map f xs) ≡ flat_map g xs
+flat-same : {X Y : Type 0} (f : X → X) (g : X → List Y) → ((x : X) → g (f x) ≡ g x) → (xs : List X) →
+    flat_map g (map f xs) ≡ flat_map g xs
 flat-same f g e [] = refl
 flat-same f g e (x ∷ xs) = λ i. e x i ++ flat-same f g e xs i
 
@@ -93,17 +97,23 @@ params-named : (ps : List Param) → map (λ (a : Param). a.name) (map bare_para
 params-named ps = map-same bare_param (λ (a : Param). a.name) (λ a. refl) ps
 
 handler-named : (h : Handler) → handler_names (bare_handler h) ≡ handler_names h
-handler-named h = λ i. trigger_words h.on ++ (h.args ++ (params-named h.locals i ++ (words-as h i ++ flat_map names_in (exprs-as h i))))
+handler-named h =
+    λ i. trigger_words h.on ++ (h.args ++ (params-named h.locals i ++ (words-as h i ++ flat_map names_in (exprs-as h i))))
 
 state-named : (s : State) → state_names (bare_state s) ≡ state_names s
-state-named s = λ i. s.name ∷ (params-named s.params i ++ (option_words s.cont ++ flat-same bare_handler handler_names handler-named s.handlers i))
+state-named s =
+    λ i. s.name ∷ (params-named s.params i ++ (option_words s.cont
+    ++ flat-same bare_handler handler_names handler-named s.handlers i))
 
-handlers-in : (ss : List State) → flat_map (λ (s : State). s.handlers) (map bare_state ss) ≡ map bare_handler (flat_map (λ (s : State). s.handlers) ss)
+handlers-in : (ss : List State) → flat_map (λ (s : State). s.handlers) (map bare_state ss)
+    ≡ map bare_handler (flat_map (λ (s : State). s.handlers) ss)
 handlers-in [] = refl
-handlers-in (s ∷ ss) = ap (λ z. map bare_handler s.handlers ++ z) (handlers-in ss) ∙ sym (map-append bare_handler s.handlers (flat_map (λ (s : State). s.handlers) ss))
+handlers-in (s ∷ ss) = ap (λ z. map bare_handler s.handlers ++ z) (handlers-in ss)
+    ∙ sym (map-append bare_handler s.handlers (flat_map (λ (s : State). s.handlers) ss))
 
 -- what is known of each handler without lines is known of it with them
-of-handlers : (P : Handler → Type 0) → ((h : Handler) → P (bare_handler h) → P h) → (p : Protocol) → Each P (handlers_of (bare_protocol p)) → Each P (handlers_of p)
+of-handlers : (P : Handler → Type 0) → ((h : Handler) → P (bare_handler h) → P h) → (p : Protocol) →
+    Each P (handlers_of (bare_protocol p)) → Each P (handlers_of p)
 of-handlers P f p e = each-back bare_handler P P f (handlers_of p) (subst (λ hs. Each P hs) (handlers-in p.states) e)
 
 -- ---- protocols
@@ -119,19 +129,26 @@ pub tree-as : (p : Protocol) → IsTree (bare_protocol p) → Each OnOneLine p.s
 tree-as p t lines = record {
   profiles = t.profiles;
   names = subst (λ ws. Each (IsName p.profile) ws) (names-as p) t.names;
-  numbers = of-handlers (λ (h : Handler). Each (λ (e : Expr). fits e ≡ true) (exprs_of h)) (λ h e. subst (λ es. Each (λ (e : Expr). fits e ≡ true) es) (exprs-as h) e) p t.numbers;
+  numbers = of-handlers (λ (h : Handler). Each (λ (e : Expr). fits e ≡ true) (exprs_of h))
+      (λ h e. subst (λ es. Each (λ (e : Expr). fits e ≡ true) es) (exprs-as h) e) p t.numbers;
   default_args = of-handlers NoDefaultArgs (λ h e. e) p t.default_args;
   no_each = of-handlers (λ (h : Handler). eaches (body_of h.body) ≡ 0) (λ h e. sym (eaches-as h) ∙ e) p t.no_each;
   no_loop = λ one. of-handlers (λ (h : Handler). loops (body_of h.body) ≡ 0) (λ h e. sym (loops-as h) ∙ e) p (t.no_loop one);
   param_lines = lines;
   few_states = subst (λ n. n ≤ 64) (length-map p.states bare_state) t.few_states;
   few_messages = subst (λ n. n ≤ 64) (length-map p.messages bare_message) t.few_messages;
-  few_handlers = subst (λ n. n ≤ 1024) (ap length (handlers-in p.states) ∙ length-map (handlers_of p) bare_handler) t.few_handlers;
+  few_handlers = subst (λ n. n ≤ 1024) (ap length (handlers-in p.states) ∙ length-map (handlers_of p) bare_handler)
+      t.few_handlers;
   few_infos = subst (λ n. n ≤ 8) (length-map p.infos bare_param) t.few_infos;
-  few_locals = of-handlers (λ (h : Handler). length h.locals ≤ 8) (λ h e. subst (λ n. n ≤ 8) (length-map h.locals bare_param) e) p t.few_locals;
-  few_message_args = each-back bare_message (λ (m : MessageDecl). length m.args ≤ 4) (λ (m : MessageDecl). length m.args ≤ 4) (λ m e. e) p.messages t.few_message_args;
-  few_params = each-back bare_state (λ (s : State). length s.params ≤ 4) (λ (s : State). length s.params ≤ 4) (λ s e. subst (λ n. n ≤ 4) (length-map s.params bare_param) e) p.states t.few_params;
-  shallow = of-handlers (λ (h : Handler). Each (λ (e : Expr). depth e ≤ 16) (exprs_of h)) (λ h e. subst (λ es. Each (λ (e : Expr). depth e ≤ 16) es) (exprs-as h) e) p t.shallow;
-  little_nest = of-handlers (λ (h : Handler). nest (body_of h.body) ≤ 16) (λ h e. subst (λ n. n ≤ 16) (nest-as h) e) p t.little_nest;
+  few_locals = of-handlers (λ (h : Handler). length h.locals ≤ 8)
+      (λ h e. subst (λ n. n ≤ 8) (length-map h.locals bare_param) e) p t.few_locals;
+  few_message_args = each-back bare_message (λ (m : MessageDecl). length m.args ≤ 4) (λ (m : MessageDecl). length m.args ≤ 4)
+      (λ m e. e) p.messages t.few_message_args;
+  few_params = each-back bare_state (λ (s : State). length s.params ≤ 4) (λ (s : State). length s.params ≤ 4)
+      (λ s e. subst (λ n. n ≤ 4) (length-map s.params bare_param) e) p.states t.few_params;
+  shallow = of-handlers (λ (h : Handler). Each (λ (e : Expr). depth e ≤ 16) (exprs_of h))
+      (λ h e. subst (λ es. Each (λ (e : Expr). depth e ≤ 16) es) (exprs-as h) e) p t.shallow;
+  little_nest = of-handlers (λ (h : Handler). nest (body_of h.body) ≤ 16)
+      (λ h e. subst (λ n. n ≤ 16) (nest-as h) e) p t.little_nest;
   few_loops = of-handlers (λ (h : Handler). loops (body_of h.body) ≤ 4) (λ h e. subst (λ n. n ≤ 4) (loops-as h) e) p t.few_loops;
 }

@@ -1,5 +1,6 @@
 -- The tests of statements do not see lines.
-use Rattle.std.proofs.Common.{◌≡◌, ◌∙◌, ℕ, ◌==◌, Bool, true, false, not, ◌&&◌, ◌||◌, List, [], ◌∷◌, ◌++◌, map, length, Option, Some, None, is_some, is_none, refl, ap}
+use Rattle.std.proofs.Common.{◌≡◌, ◌∙◌, ℕ, ◌==◌, Bool, true, false, not, ◌&&◌, ◌||◌, List, [], ◌∷◌, ◌++◌, map, length, Option}
+use Rattle.std.proofs.Common.{Some, None, is_some, is_none, refl, ap}
 use Rattle.std.specs.Prelude.{find, if◌then◌else◌}
 use Rattle.std.specs.List.{list_all}
 use Rattle.std.specs.Option.{option_map}
@@ -19,8 +20,11 @@ use Rattle.teapot_tree.specs.Bare.{bare_handler, bare_message, bare_param, bare_
 use Rattle.teapot_tree.specs.Bodies.{assign, send, send_all, set_state, suspend, resume, install}
 use Rattle.teapot_tree.specs.Parts.{names_in}
 use Rattle.teapot_tree.specs.Paths.{Deed, does, tests, repeats}
-use Rattle.teapot_tree.specs.Rules.{are_fit, carries, drops_cont, exprs_at, has_cont, is_counted, is_declared, is_fit, is_message_count, is_state_count, is_typed, is_wrong_start, lacks_cont, lacks_data, params_of, resumes_foreign, uses_undeclared}
-use Rattle.teapot_tree.specs.Scopes.{Scope, args_of, assignable, is_among, is_of, locals_in, message_of, of_param, state_of, taken_message, type_among, type_of, typed, visible}
+use Rattle.teapot_tree.specs.Rules.{are_fit, carries, drops_cont, exprs_at, has_cont, is_counted, is_declared, is_fit}
+use Rattle.teapot_tree.specs.Rules.{is_message_count, is_state_count, is_typed, is_wrong_start, lacks_cont, lacks_data}
+use Rattle.teapot_tree.specs.Rules.{params_of, resumes_foreign, uses_undeclared}
+use Rattle.teapot_tree.specs.Scopes.{Scope, args_of, assignable, is_among, is_of, locals_in, message_of, of_param, state_of}
+use Rattle.teapot_tree.specs.Scopes.{taken_message, type_among, type_of, typed, visible}
 use Rattle.teapot_rules.specs.Deeds.{breaks_at}
 
 abbrev pub bare_scope : Scope → Scope
@@ -32,7 +36,8 @@ find-map : {X Y : Type 0} (f : X → Y) (t : Y → Bool) (xs : List X) → find 
 find-map f t [] = refl
 find-map f t (x ∷ xs) = by_test (t (f x)) (find-map f t xs)
   where
-    by_test : (b : Bool) → find t (map f xs) ≡ option_map f (find (λ x. t (f x)) xs) → (if b then Some (f x) else find t (map f xs)) ≡ option_map f (if b then Some x else find (λ x. t (f x)) xs)
+    by_test : (b : Bool) → find t (map f xs) ≡ option_map f (find (λ x. t (f x)) xs) →
+        (if b then Some (f x) else find t (map f xs)) ≡ option_map f (if b then Some x else find (λ x. t (f x)) xs)
     by_test true h = refl
     by_test false h = h
 
@@ -95,7 +100,8 @@ carries-as : (o : Option MessageDecl) → carries (option_map bare_message o) �
 carries-as None = refl
 carries-as (Some m) = refl
 
-pub message-count : (p : Protocol) (n : Name) (k : ℕ) → is_message_count (message_of (bare_protocol p) n) k ≡ is_message_count (message_of p n) k
+pub message-count : (p : Protocol) (n : Name) (k : ℕ) → is_message_count (message_of (bare_protocol p) n) k
+    ≡ is_message_count (message_of p n) k
 message-count p n k = ap (λ o. is_message_count o k) (message-bare p n) ∙ message-count-as (message_of p n) k
 
 pub message-none : (p : Protocol) (n : Name) → is_none (message_of (bare_protocol p) n) ≡ is_none (message_of p n)
@@ -117,7 +123,8 @@ message-some p n = ap is_some (message-bare p n) ∙ some-as bare_message (messa
 message-types : (p : Protocol) (n : Name) → args_of (message_of (bare_protocol p) n) ≡ args_of (message_of p n)
 message-types p n = ap args_of (message-bare p n) ∙ args-as (message_of p n)
 
-state-count : (p : Protocol) (n : Name) (k : ℕ) → is_state_count (state_of (bare_protocol p) n) k ≡ is_state_count (state_of p n) k
+state-count : (p : Protocol) (n : Name) (k : ℕ) → is_state_count (state_of (bare_protocol p) n) k
+    ≡ is_state_count (state_of p n) k
 state-count p n k = ap (λ o. is_state_count o k) (state-bare p n) ∙ state-count-as (state_of p n) k
 
 state-some : (p : Protocol) (n : Name) → is_some (state_of (bare_protocol p) n) ≡ is_some (state_of p n)
@@ -140,11 +147,13 @@ locals-bare c = variables-bare c.handler.locals
 assignable-bare : (c : Scope) → assignable (bare_scope c) ≡ assignable c
 assignable-bare c = λ i. variables-bare c.protocol.infos i ++ variables-bare c.handler.locals i
 
-taken-args : (c : Scope) → args_of (taken_message (bare_protocol c.protocol) c.handler.on) ≡ args_of (taken_message c.protocol c.handler.on)
+taken-args : (c : Scope) → args_of (taken_message (bare_protocol c.protocol) c.handler.on)
+    ≡ args_of (taken_message c.protocol c.handler.on)
 taken-args c = ap args_of (taken-bare c.protocol c.handler.on) ∙ args-as (taken_message c.protocol c.handler.on)
 
 visible-bare : (c : Scope) → visible (bare_scope c) ≡ visible c
-visible-bare c = λ i. variables-bare c.protocol.infos i ++ (variables-bare c.state.params i ++ (typed c.handler.args (taken-args c i) ++ variables-bare c.handler.locals i))
+visible-bare c = λ i. variables-bare c.protocol.infos i ++ (variables-bare c.state.params i
+    ++ (typed c.handler.args (taken-args c i) ++ variables-bare c.handler.locals i))
 
 -- ---- the tests
 
@@ -158,12 +167,15 @@ declared-bare c (repeats n e) = ap (λ vs. is_among vs n) (locals-bare c)
 declared-bare c _ = refl
 
 uses-bare : (c : Scope) (d : Deed) → uses_undeclared (bare_scope c) d ≡ uses_undeclared c d
-uses-bare c d = λ i. not (declared-bare c d i && list_all (λ e. list_all (λ n. is_among (visible-bare c i) n) (names_in e)) (exprs_at d))
+uses-bare c d =
+    λ i. not (declared-bare c d i && list_all (λ e. list_all (λ n. is_among (visible-bare c i) n) (names_in e)) (exprs_at d))
 
 typed-bare : (c : Scope) (d : Deed) → is_typed (bare_scope c) d ≡ is_typed c d
 typed-bare c (does (assign n e)) = λ i. is_fit (type_among (assignable-bare c i) n) (type_of (visible-bare c i) e)
-typed-bare c (does (send e n xs)) = λ i. is_of Node (type_of (visible-bare c i) e) && are_fit (message-types c.protocol n i) (map (λ x. type_of (visible-bare c i) x) xs)
-typed-bare c (does (send_all e n xs)) = λ i. is_of Set (type_of (visible-bare c i) e) && are_fit (message-types c.protocol n i) (map (λ x. type_of (visible-bare c i) x) xs)
+typed-bare c (does (send e n xs)) = λ i. is_of Node (type_of (visible-bare c i) e) && are_fit (message-types c.protocol n i)
+    (map (λ x. type_of (visible-bare c i) x) xs)
+typed-bare c (does (send_all e n xs)) = λ i. is_of Set (type_of (visible-bare c i) e) && are_fit (message-types c.protocol n i)
+    (map (λ x. type_of (visible-bare c i) x) xs)
 typed-bare c (does (set_state n xs)) = λ i. are_fit (state-types c.protocol n i) (map (λ x. type_of (visible-bare c i) x) xs)
 typed-bare c (does (suspend l n xs p)) = λ i. are_fit (state-types c.protocol n i) (map (λ x. type_of (visible-bare c i) x) xs)
 typed-bare c (tests e) = λ i. is_of Truth (type_of (visible-bare c i) e)
@@ -173,7 +185,8 @@ typed-bare c _ = refl
 counted-bare : (c : Scope) (d : Deed) → is_counted (bare_scope c) d ≡ is_counted c d
 counted-bare c (does (send e n xs)) = message-count c.protocol n (length xs)
 counted-bare c (does (send_all e n xs)) = message-count c.protocol n (length xs)
-counted-bare c (does (set_state n xs)) = λ i. state-count c.protocol n (length xs) i && (is_some c.state.cont || not (has-cont c.protocol n i))
+counted-bare c (does (set_state n xs)) = λ i. state-count c.protocol n
+    (length xs) i && (is_some c.state.cont || not (has-cont c.protocol n i))
 counted-bare c (does (suspend l n xs p)) = λ i. state-count c.protocol n (length xs) i && not (lacks-cont c.protocol n i)
 counted-bare c _ = refl
 
@@ -186,10 +199,12 @@ foreign-bare c (does (resume n)) = refl
 foreign-bare c _ = refl
 
 lacks-bare : (c : Scope) (d : Deed) → lacks_data (bare_scope c) d ≡ lacks_data c d
-lacks-bare c (does install) = ap not (ap carries (taken-bare c.protocol c.handler.on) ∙ carries-as (taken_message c.protocol c.handler.on))
+lacks-bare c (does install) = ap not (ap carries (taken-bare c.protocol c.handler.on)
+    ∙ carries-as (taken_message c.protocol c.handler.on))
 lacks-bare c _ = refl
 
-pub breaks-bare : (c : Scope) (r : Rule) (had more : Bool) (d : Deed) → breaks_at (bare_scope c) r had more d ≡ breaks_at c r had more d
+pub breaks-bare : (c : Scope) (r : Rule) (had more : Bool) (d : Deed) →
+    breaks_at (bare_scope c) r had more d ≡ breaks_at c r had more d
 breaks-bare c Undeclared had more d = uses-bare c d
 breaks-bare c WrongType had more d = ap not (typed-bare c d)
 breaks-bare c ArgCount had more d = ap not (counted-bare c d)

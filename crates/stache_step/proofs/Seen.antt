@@ -26,7 +26,8 @@ pub others_are : (s : List Bool) (i : ℕ) → length s ≡ 8 → i < 8 → coun
 others_are s i eight below = count-is (without s i) ∙ ap (λ f. members 8 f) (without-is s i eight below)
 
 pub same_row :
-    (s t : State) (k l : Kind) (r q : Rest) (others others' acks acks' : ℕ) → s ≡ t → k ≡ l → r ≡ q → others ≡ others' → acks ≡ acks' →
+    (s t : State) (k l : Kind) (r q : Rest) (others others' acks acks' : ℕ) → s ≡ t → k ≡ l → r ≡ q → others ≡ others' →
+    acks ≡ acks' →
     row_at s k r others acks ≡ row_at t l q others' acks'
 same_row s t k l r q others others' acks acks' es ek er eo ea =
     ap (λ x. row_at x k r others acks) es ∙ ap (λ x. row_at t x r others acks) ek ∙ ap (λ x. row_at t l x others acks) er

@@ -42,7 +42,8 @@ kind_in came = kind_of_note (note_in came)
 -- many sharers are not the sender, and how many ACKs are due.
 abbrev pub row_for : Here → Message → Option ℕ
 row_for here m =
-    row_at (read here).state (seen_kind m.kind) (read here).rest (members 8 (without_node (has (read here).set) m.from)) (read here).acks
+    row_at (read here).state (seen_kind m.kind) (read here).rest (members 8 (without_node (has (read here).set) m.from))
+    (read here).acks
 
 -- the message comes to the end that the row says
 pub record IsRowsEnd (here : Here) (m : Message) (e : Ended) (r : TableRow) : Type 0 where
@@ -72,5 +73,6 @@ RowIsMeant here m row =
 -- No row of another number says of itself what the message does there.
 abbrev pub OnlyRow : Here → Message → Option ℕ → Type 0
 OnlyRow here m row =
-    (p : Protocol) (x : Block) (e : Ended) (k : ℕ) (r : TableRow) → IsStache p → IsBlock here x → IsCome m here (seen_kind m.kind) → Does p here m e
+    (p : Protocol) (x : Block) (e : Ended) (k : ℕ) (r : TableRow) → IsStache p → IsBlock here x →
+    IsCome m here (seen_kind m.kind) → Does p here m e
     → slice_get rows k ≡ Some r → IsRowsEnd here m e r → row ≡ Some k

@@ -30,12 +30,20 @@ use Rattle.teapot_meaning.specs.declared.state.Kept.TheVariants as real_kept
 use Rattle.teapot_meaning.specs.declared.state.Out.{Out}
 use Rattle.teapot_meaning.specs.declared.state.StateVal.{out-StateVal}
 use Rattle.block_spots.specs.Cases as cases
-use Rattle.block_spots.specs.Cases.{HomeRw, HomeRo, HomeExcl, HomeAcks, HomePut, CacheInv, CacheRo, CacheRw, CacheWaitRo, CacheWaitRw, NoRest, OfHome, OfRo, OfRw, OfCache, Effect, channel_of}
+use Rattle.block_spots.specs.Cases.{HomeRw, HomeRo, HomeExcl, HomeAcks, HomePut, CacheInv, CacheRo, CacheRw, CacheWaitRo}
+use Rattle.block_spots.specs.Cases.{CacheWaitRw, NoRest, OfHome, OfRo, OfRw, OfCache, Effect, channel_of}
 use Rattle.block_spots.specs.Views.{Reads, int_of, seen_kind, state_numbered, value_at, words_in}
 use Rattle.stache_table.specs.Handling.{handle_in}
 use Rattle.stache_tree.specs.Code.{Code, Done, Assign, When, Send, SendAll, SetTag, Suspend}
 use Rattle.stache_table.specs.Runs.{Later, Run, here_in, over, play}
-use Rattle.stache_tree.specs.Tree.{on, stache, cache_inv_else, cache_inv_on_rd_fault, cache_inv_on_wr_fault, cache_ro_else, cache_ro_on_inv, cache_ro_on_wr_fault, cache_rw_else, cache_rw_on_recall, cache_wait_ro_else, cache_wait_ro_on_data_ro, cache_wait_rw_else, cache_wait_rw_on_data_rw, cache_wait_rw_on_inv, home_acks_else, home_acks_on_ack, home_excl_else, home_excl_on_get_ro, home_excl_on_get_rw, home_excl_on_rd_fault, home_excl_on_wr_fault, home_put_else, home_put_on_put, home_ro_else, home_ro_on_get_ro, home_ro_on_get_rw, home_ro_on_rd_fault, home_ro_on_wr_fault, home_rw_else, home_rw_on_get_ro, home_rw_on_get_rw, home_rw, home_ro, home_excl, home_acks, home_put, cache_inv, cache_ro, cache_rw, cache_wait_ro, cache_wait_rw}
+use Rattle.stache_tree.specs.Tree.{on, stache, cache_inv_else, cache_inv_on_rd_fault, cache_inv_on_wr_fault, cache_ro_else}
+use Rattle.stache_tree.specs.Tree.{cache_ro_on_inv, cache_ro_on_wr_fault, cache_rw_else, cache_rw_on_recall, cache_wait_ro_else}
+use Rattle.stache_tree.specs.Tree.{cache_wait_ro_on_data_ro, cache_wait_rw_else, cache_wait_rw_on_data_rw, cache_wait_rw_on_inv}
+use Rattle.stache_tree.specs.Tree.{home_acks_else, home_acks_on_ack, home_excl_else, home_excl_on_get_ro, home_excl_on_get_rw}
+use Rattle.stache_tree.specs.Tree.{home_excl_on_rd_fault, home_excl_on_wr_fault, home_put_else, home_put_on_put, home_ro_else}
+use Rattle.stache_tree.specs.Tree.{home_ro_on_get_ro, home_ro_on_get_rw, home_ro_on_rd_fault, home_ro_on_wr_fault, home_rw_else}
+use Rattle.stache_tree.specs.Tree.{home_rw_on_get_ro, home_rw_on_get_rw, home_rw, home_ro, home_excl, home_acks, home_put}
+use Rattle.stache_tree.specs.Tree.{cache_inv, cache_ro, cache_rw, cache_wait_ro, cache_wait_rw}
 
 abbrev pub number_of : cases.State → ℕ
 number_of HomeRw = 0

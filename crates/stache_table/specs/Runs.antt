@@ -1,5 +1,6 @@
 -- Handlers under way, on plain data: a state holds at most one continuation, and that is kept in the notation.
-use Rattle.std.specs.Prelude.{ℕ, zero, suc, Bool, true, List, [], ◌∷◌, ◌++◌, Option, Some, None, map, slice_get, slice_set, unwrap_or, codes}
+use Rattle.std.specs.Prelude.{ℕ, zero, suc, Bool, true, List, [], ◌∷◌, ◌++◌, Option, Some, None, map, slice_get, slice_set}
+use Rattle.std.specs.Prelude.{unwrap_or, codes}
 use Rattle.tw_base.specs.declared.name.Name.{Name}
 use Rattle.tw_base.specs.declared.value.Data.{Data}
 use Rattle.tw_base.specs.declared.value.Tag.{Tag}
@@ -23,7 +24,8 @@ use Rattle.teapot_meaning.specs.declared.state.Running.{Running}
 use Rattle.teapot_meaning.specs.declared.state.StateVal.{StateVal, roll-StateVal}
 use Rattle.teapot_meaning.specs.Steps.{freed_kept, node_of, out_to, payload_of, place_of, set_of}
 use Rattle.teapot_meaning.specs.Values.{bound_in, count_of, info_at, one_of, two_of, variable_or}
-use Rattle.stache_tree.specs.Code.{Code, Term, Done, Assign, When, Last, Send, SendAll, SetTag, SetState, Suspend, Resume, Error, Install, Enqueue, WakeUp, Number, Empty, Src, Home, Var, One, Count, Two, stmts_of}
+use Rattle.stache_tree.specs.Code.{Code, Term, Done, Assign, When, Last, Send, SendAll, SetTag, SetState, Suspend, Resume}
+use Rattle.stache_tree.specs.Code.{Error, Install, Enqueue, WakeUp, Number, Empty, Src, Home, Var, One, Count, Two, stmts_of}
 
 -- the rest, its variables, and the number of the state that was left
 pub record Later : Type 0 where
@@ -62,7 +64,15 @@ abbrev pub state_val : ℕ → Option Later → StateVal
 state_val n later = roll-StateVal (record { state = n; args = []; cont = cont_if later })
 
 abbrev pub here_in : Run → Here
-here_in r = record { me = r.me; home = r.home; block = r.block; infos = r.infos; state = state_val r.state r.later; tag = r.tag; words = r.words }
+here_in r = record {
+  me = r.me;
+  home = r.home;
+  block = r.block;
+  infos = r.infos;
+  state = state_val r.state r.later;
+  tag = r.tag;
+  words = r.words;
+}
 
 abbrev pub real : Run → Running
 real r = record {
@@ -140,7 +150,15 @@ suspend c r n None =
 suspend c r n (Some k) = Lost
 
 abbrev pub resume : Run → Option Later → Turn
-resume r (Some k) = Going k.rest (record r { state = k.state; later = None; vars = k.vars; came = k.came; freed = true; kept = freed_kept r.kept })
+resume r (Some k) =
+    Going k.rest (record r {
+      state = k.state;
+      later = None;
+      vars = k.vars;
+      came = k.came;
+      freed = true;
+      kept = freed_kept r.kept;
+    })
 resume r None = Stopped r Fine
 
 -- what the first statement leads to; an empty loop is one turn
@@ -152,7 +170,10 @@ turn p (Last name e c) r = Going c (put_last r name (nodes_in (set_of (val p r e
 turn p (Send to name c) r =
     Going c (record r { sends = r.sends ++ out p r (node_of (val p r to)) (declared (message_number p name)) ∷ [] })
 turn p (SendAll to name c) r =
-    Going c (record r { sends = r.sends ++ map (λ i. out p r i (declared (message_number p name))) (nodes_in (set_of (val p r to))) })
+    Going c (record r {
+      sends = r.sends ++ map (λ i. out p r i (declared (message_number p name)))
+          (nodes_in (set_of (val p r to)));
+    })
 turn p (SetTag tag c) r = Going c (record r { tag = tag })
 turn p (SetState name c) r =
     Going c (record r { state = declared (state_number p name); freed = true; kept = freed_kept r.kept })

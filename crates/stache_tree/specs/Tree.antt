@@ -17,7 +17,8 @@ use Rattle.teapot_tree.specs.declared.protocol.Trigger.{Trigger}
 use Rattle.teapot_tree.specs.declared.protocol.Trigger.TheVariants.{RdFault, WrFault, Named, Default}
 use Rattle.teapot_tree.specs.declared.protocol.ValType.{ValType}
 use Rattle.teapot_tree.specs.declared.protocol.ValType.TheVariants as ty
-use Rattle.stache_tree.specs.Code.{Code, Done, Assign, When, Send, SendAll, SetTag, SetState, Suspend, Resume, Error, Install, Enqueue, WakeUp, Number, Empty, Src, Home, Var, One, Count, Two, stmts_of}
+use Rattle.stache_tree.specs.Code.{Code, Done, Assign, When, Send, SendAll, SetTag, SetState, Suspend, Resume, Error, Install}
+use Rattle.stache_tree.specs.Code.{Enqueue, WakeUp, Number, Empty, Src, Home, Var, One, Count, Two, stmts_of}
 
 abbrev pub message : Name → Chan → Bool → MessageDecl
 message name c carries = record { name = name; args = []; chan = c; carries = carries; line = 0 }
@@ -216,8 +217,10 @@ stache = record {
   profile = 1;
   line = 0;
   messages =
-      message (codes "GET_RO") chan.Zero false ∷ message (codes "GET_RW") chan.Zero false ∷ message (codes "DATA_RO") chan.One true ∷ message (codes "DATA_RW") chan.One true
-      ∷ message (codes "PUT") chan.One true ∷ message (codes "INV") chan.One false ∷ message (codes "ACK") chan.One false ∷ message (codes "RECALL") chan.One false ∷ [];
+      message (codes "GET_RO") chan.Zero false ∷ message (codes "GET_RW") chan.Zero false ∷ message
+      (codes "DATA_RO") chan.One true ∷ message (codes "DATA_RW") chan.One true
+      ∷ message (codes "PUT") chan.One true ∷ message (codes "INV") chan.One false ∷ message
+      (codes "ACK") chan.One false ∷ message (codes "RECALL") chan.One false ∷ [];
   infos = info (codes "sharers") ty.Set ∷ info (codes "owner") ty.Node ∷ info (codes "acks") ty.Int ∷ [];
   starts = starts_in true (codes "Home_RW") ReadWrite ∷ starts_in false (codes "Cache_Inv") Invalid ∷ [];
   states = states;

@@ -17,8 +17,11 @@ some_there [] i l = absurd (omega arith)
 some_there (x ∷ xs) zero l = (x, refl)
 some_there (x ∷ xs) (suc i) l = some_there xs i (omega arith)
 
-pub tests_tell : (a : StillShown) (words : List ℕ) (g : World) → AreTests a words → IsStill a g → told_events words ≡ enabled_events a.setup g
+pub tests_tell : (a : StillShown) (words : List ℕ) (g : World) → AreTests a words → IsStill a g →
+    told_events words ≡ enabled_events a.setup g
 tests_tell a words g w s = told_enabled a.setup g words w.count (λ i l. at i l (some_there a.nodes i (omega (arith, s.count, l))))
   where
-    at : (i : ℕ) → i < a.setup.shape.nodes → (n : Shown) × (slice_get a.nodes i ≡ Some n) → truths (2 + 2 * a.setup.shape.nodes) (slice_index words i) ≡ map (is_enabled a.setup g) (node_events a.setup.shape.nodes i)
+    at : (i : ℕ) → i < a.setup.shape.nodes → (n : Shown) × (slice_get a.nodes i ≡ Some n) →
+        truths (2 + 2 * a.setup.shape.nodes) (slice_index words i)
+        ≡ map (is_enabled a.setup g) (node_events a.setup.shape.nodes i)
     at i l (n, there) = w.tests i n there ∙ sym (tests_are a g i n s there l (w.fronts i n there))

@@ -1,5 +1,6 @@
 -- What a node's clause says of its event, as the event of all.
-use Rattle.std.proofs.Common.{◌≡◌, ◌∙◌, ℕ, ◌<◌, true, nat_eq, if◌then◌else◌, List, [], ◌∷◌, ◌++◌, Option, Some, None, length, refl, ap, sym, subst}
+use Rattle.std.proofs.Common.{◌≡◌, ◌∙◌, ℕ, ◌<◌, true, nat_eq, if◌then◌else◌, List, [], ◌∷◌, ◌++◌, Option, Some, None, length}
+use Rattle.std.proofs.Common.{refl, ap, sym, subst}
 use Rattle.std.specs.Prelude.{slice_get, slice_set}
 use Rattle.std.proofs.lemmas.Bool.{eqb-true}
 use Rattle.std.proofs.lemmas.List.{length-set}
@@ -50,14 +51,17 @@ taken_at i act.Step f c h = absurd cc
 taken_at i (act.Fault store block) f c h = absurd cc
 taken_at i (act.Redelivered kind block from) f c h = absurd cc
 
-makes_one : (a b : StillShown) (old new : Shown) (front : Option Message) (ev : Event) (m : Makes old new front ev) (e : Entry) → m.entry ≡ e → e.node ≡ old.me → slice_get a.nodes old.me ≡ Some old → old.me < a.setup.shape.nodes
-    → IsFrontOf a.setup.shape.nodes old ev front → b.setup ≡ a.setup → b.code ≡ a.code → b.rows ≡ a.rows → b.nodes ≡ slice_set a.nodes old.me new → b.taken ≡ a.taken ++ e ∷ [] → MakesOne a b e front m.more old new
+makes_one : (a b : StillShown) (old new : Shown) (front : Option Message) (ev : Event) (m : Makes old new front ev)
+    (e : Entry) → m.entry ≡ e → e.node ≡ old.me → slice_get a.nodes old.me ≡ Some old → old.me < a.setup.shape.nodes
+    → IsFrontOf a.setup.shape.nodes old ev front → b.setup ≡ a.setup → b.code ≡ a.code → b.rows ≡ a.rows →
+    b.nodes ≡ slice_set a.nodes old.me new → b.taken ≡ a.taken ++ e ∷ [] → MakesOne a b e front m.more old new
 makes_one a b old new front ev m e is at there within takes setup code rows nodes taken =
     let i : e.node ≡ old.me = at in
     let l : old.me < length a.nodes = slice_get_within a.nodes old.me old there in
     record {
       there = ap (λ k. slice_get a.nodes k) i ∙ there;
-      here = ap (λ k. slice_get b.nodes k) i ∙ ap (λ (ns : List Shown). slice_get ns old.me) nodes ∙ set_here a.nodes old.me new l;
+      here = ap (λ k. slice_get b.nodes k) i ∙ ap (λ (ns : List Shown). slice_get ns old.me) nodes
+          ∙ set_here a.nodes old.me new l;
       away = λ k d. ap (λ (ns : List Shown). slice_get ns k) nodes ∙ set_other a.nodes old.me k new (λ q. d (q ∙ sym i));
       count = ap (λ (ns : List Shown). length ns) nodes ∙ length-set a.nodes old.me new;
       rows = rows;
@@ -65,18 +69,24 @@ makes_one a b old new front ev m e is at there within takes setup code rows node
       same_code = code;
       taken = taken;
       node = subst (λ k. k < a.setup.shape.nodes) (sym i) within;
-      within = λ f c h. subst (λ (v : Event). IsFrontOf a.setup.shape.nodes old v front) (sym m.tells ∙ ap (λ (x : Entry). event_of x) is ∙ taken_at e.node e.act f c h) takes;
+      within = λ f c h. subst (λ (v : Event). IsFrontOf a.setup.shape.nodes old v front)
+          (sym m.tells ∙ ap (λ (x : Entry). event_of x) is ∙ taken_at e.node e.act f c h) takes;
       waits = m.waits;
       setup = m.same_setup;
       code = m.same_code;
       me = m.same_me;
-      fronts = subst (λ (x : Entry). (f : ℕ) (c : Chan) → front_at new f c ≡ (if takes_from x.act f c then None else front_at old f c)) is m.fronts;
+      fronts = subst (λ (x : Entry). (f : ℕ) (c : Chan) → front_at new f c
+          ≡ (if takes_from x.act f c then None else front_at old f c)) is m.fronts;
       goes = subst (λ (x : Entry). (c : Course) → StandsFor old c → GoesOn old new c x front m.more) is m.goes;
     }
 
 -- A node of the still makes an event, and its entry is put behind those that were taken: all go through it.
-pub made_through : (a b : StillShown) (old new : Shown) (front : Option Message) (ev : Event) (m : Makes old new front ev) → node_of ev ≡ old.me → slice_get a.nodes old.me ≡ Some old → old.me < a.setup.shape.nodes → IsFrontOf a.setup.shape.nodes old ev front
-    → b.setup ≡ a.setup → b.code ≡ a.code → b.rows ≡ a.rows → b.nodes ≡ slice_set a.nodes old.me new → b.taken ≡ a.taken ++ m.entry ∷ [] → GoesThrough a b (m.entry ∷ []) (Runs a.setup)
+pub made_through : (a b : StillShown) (old new : Shown) (front : Option Message) (ev : Event) (m : Makes old new front ev) →
+    node_of ev ≡ old.me → slice_get a.nodes old.me ≡ Some old → old.me < a.setup.shape.nodes →
+    IsFrontOf a.setup.shape.nodes old ev front
+    → b.setup ≡ a.setup → b.code ≡ a.code → b.rows ≡ a.rows → b.nodes ≡ slice_set a.nodes old.me new →
+    b.taken ≡ a.taken ++ m.entry ∷ [] → GoesThrough a b (m.entry ∷ []) (Runs a.setup)
 made_through a b old new front ev m me there within takes setup code rows nodes taken =
     let at : m.entry.node ≡ old.me = sym (node_is m.entry.node m.entry.act) ∙ ap (λ (v : Event). node_of v) m.tells ∙ me in
-    one_through a b m.entry front m.more old new (makes_one a b old new front ev m m.entry refl at there within takes setup code rows nodes taken)
+    one_through a b m.entry front m.more old new (makes_one a b old new front ev m m.entry refl at there within takes setup
+    code rows nodes taken)

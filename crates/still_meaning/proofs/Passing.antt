@@ -1,5 +1,6 @@
 -- Messages are handed over: the nodes stand for the same courses, and the same is on the way.
-use Rattle.std.proofs.Common.{◌≡◌, ◌∙◌, ◌≢◌, ℕ, zero, suc, ◌<◌, ◌≤◌, List, [], ◌∷◌, ◌++◌, Option, Some, None, length, refl, ap, sym, subst, arith, append-nil}
+use Rattle.std.proofs.Common.{◌≡◌, ◌∙◌, ◌≢◌, ℕ, zero, suc, ◌<◌, ◌≤◌, List, [], ◌∷◌, ◌++◌, Option, Some, None, length, refl, ap}
+use Rattle.std.proofs.Common.{sym, subst, arith, append-nil}
 use Rattle.std.specs.Prelude.{slice_get, slice_set}
 use Rattle.tw_base.specs.declared.message.Message.{Message}
 use Rattle.dsm_runs.specs.Setups.{Setup}
@@ -36,15 +37,23 @@ past (x ∷ xs) (suc i) h = past xs i (omega arith)
 
 pub passes_still : (a b : StillShown) (g : World) → Passes a b → IsStill a g → IsStill b g
 passes_still a b g p h =
-    let back : (k : ℕ) → k < b.setup.shape.nodes → k < a.setup.shape.nodes = λ k l. subst (λ (s : Setup). k < s.shape.nodes) p.same_setup l in
+    let back : (k : ℕ) → k < b.setup.shape.nodes → k < a.setup.shape.nodes =
+    λ k l. subst (λ (s : Setup). k < s.shape.nodes) p.same_setup l in
     record {
       count = p.count ∙ h.count ∙ ap (λ (s : Setup). s.shape.nodes) (sym p.same_setup);
       ends = h.ends;
       nodes = λ i n there.
           let o = p.nodes i n there in
           let w = h.nodes i o.old o.there in
-          record { setup = o.setup ∙ w.setup ∙ sym p.same_setup; code = o.code ∙ w.code ∙ sym p.same_code; me = o.me ∙ w.me; stands = o.stands (h.ends i) w.stands };
-      agrees = λ f t c lf lt. h.agrees f t c (back f lf) (back t lt) ∙ ap (λ (ms : List Message). (h.ends t).took f c ++ ms) (sym (p.flight f t c (back f lf) (back t lt)));
+          record {
+            setup = o.setup ∙ w.setup ∙ sym p.same_setup;
+            code = o.code ∙ w.code ∙ sym p.same_code;
+            me = o.me
+                ∙ w.me;
+            stands = o.stands (h.ends i) w.stands;
+          };
+      agrees = λ f t c lf lt. h.agrees f t c (back f lf) (back t lt)
+          ∙ ap (λ (ms : List Message). (h.ends t).took f c ++ ms) (sym (p.flight f t c (back f lf) (back t lt)));
       joined = record {
         locals = λ i l. h.joined.locals i (back i l);
         wires = λ f t c lf lt. h.joined.wires f t c (back f lf) (back t lt) ∙ sym (p.flight f t c (back f lf) (back t lt));
@@ -58,10 +67,12 @@ passes_tally a b p i = go (slice_get b.nodes i) refl
     go : (o : Option Shown) → slice_get b.nodes i ≡ o → tallies b i ≡ tallies a i
     go None h =
         let gone : slice_get a.nodes i ≡ None = past a.nodes i (omega (arith, none_there b.nodes i h, p.count)) in
-        ap (λ (o : Option Shown). tally_in b.setup i o) h ∙ ap (λ (s : Setup). first_tally s i) p.same_setup ∙ sym (ap (λ (o : Option Shown). tally_in a.setup i o) gone)
+        ap (λ (o : Option Shown). tally_in b.setup i o) h ∙ ap (λ (s : Setup). first_tally s i) p.same_setup
+        ∙ sym (ap (λ (o : Option Shown). tally_in a.setup i o) gone)
     go (Some n) h =
         let o = p.nodes i n h in
-        ap (λ (x : Option Shown). tally_in b.setup i x) h ∙ o.tally ∙ sym (ap (λ (x : Option Shown). tally_in a.setup i x) o.there)
+        ap (λ (x : Option Shown). tally_in b.setup i x) h ∙ o.tally
+        ∙ sym (ap (λ (x : Option Shown). tally_in a.setup i x) o.there)
 
 pub passes_tallies : (a b : StillShown) → Passes a b → tallies b ≡ tallies a
 passes_tallies a b p = λ j i. passes_tally a b p i j

@@ -1,5 +1,6 @@
 -- What is read of the nodes is what the state that they stand for has.
-use Rattle.std.proofs.Common.{◌≡◌, ◌∙◌, ℕ, ◌/◌, ◌%◌, ◌<◌, ◌⊎◌, ◌≤◌, List, Some, None, length, refl, ap, sym, subst, arith, inl, inr, mul_comm, get_or}
+use Rattle.std.proofs.Common.{◌≡◌, ◌∙◌, ℕ, ◌/◌, ◌%◌, ◌<◌, ◌⊎◌, ◌≤◌, List, Some, None, length, refl, ap, sym, subst, arith, inl}
+use Rattle.std.proofs.Common.{inr, mul_comm, get_or}
 use Rattle.std.specs.Prelude.{slice_get, slice_index}
 use Rattle.std.proofs.Math.Nat.{div-lt_iff_lt-mul}
 use Rattle.std.proofs.lemmas.Option.{slice_get_cases}
@@ -19,7 +20,8 @@ use Rattle.still_meaning.specs.Stills.{IsNodeAt, IsStill, StillShown, tallies, t
 present : {X : Type 0} (xs : List X) (i : ℕ) → i < length xs → (x : X) × (slice_get xs i ≡ Some x)
 present {X} xs i l = here (slice_get_cases xs i).1
   where
-    here : ((x : X) × (i < length xs) × (slice_get xs i ≡ Some x) × (get_or xs i x ≡ x)) ⊎ ((length xs ≤ i) × (slice_get xs i ≡ None)) → (x : X) × (slice_get xs i ≡ Some x)
+    here : ((x : X) × (i < length xs) × (slice_get xs i ≡ Some x) × (get_or xs i x ≡ x))
+        ⊎ ((length xs ≤ i) × (slice_get xs i ≡ None)) → (x : X) × (slice_get xs i ≡ Some x)
     here (inl f) = (f.0, f.2)
     here (inr past) = let far = past.0 in absurd (omega (arith, l, far))
 
@@ -39,7 +41,8 @@ module _ (s : StillShown) (i : ℕ) (n : Shown) (c : Course) (at : IsNodeAt s i 
       let stands = at.stands.blocks b (subst (λ z. b < z.shape.blocks) (sym at.setup) l) in
       ap (block_words n.copies) (sym (block_is b l)) ∙ stands.words
 
-  node_word : (address : ℕ) → block_of s.setup address < s.setup.shape.blocks → word_of_node (Some n) address ≡ word_here s.setup c.local.blocks address
+  node_word : (address : ℕ) → block_of s.setup address < s.setup.shape.blocks →
+      word_of_node (Some n) address ≡ word_here s.setup c.local.blocks address
   node_word address l =
       ap (λ z. slice_index (block_words n.copies (address / z.shape.words)) (address % z.shape.words)) at.setup
       ∙ ap (λ ws. slice_index ws (offset_of s.setup address)) (node_words (block_of s.setup address) l)
@@ -59,11 +62,13 @@ module _ (s : StillShown) (g : World) (is : IsStill s g) (limits : IsWithinLimit
   block_within address l =
       (div-lt_iff_lt-mul limits.some_word).1 (subst (λ k. address < k) (mul_comm s.setup.shape.words s.setup.shape.blocks) l)
 
-  pub stands_as : StandsAs s.setup g (λ i. (tallies s i).ops) (λ i. (tallies s i).records) s.setup.shape (tag_at s) (word_at s) (end_at s)
+  pub stands_as : StandsAs s.setup g (λ i. (tallies s i).ops) (λ i. (tallies s i).records) s.setup.shape (tag_at s) (word_at s)
+      (end_at s)
   stands_as = record {
     sizes = refl;
     tags = λ i b li lb. (let n = node_at i li in let at = is.nodes i n.0 n.1 in
-        ap (λ o. tag_of_node o b) n.1 ∙ node_tag s i n.0 (is.ends i) at b lb ∙ ap (λ (x : Local). (x.blocks b).tag) (sym (is.joined.locals i li)));
+        ap (λ o. tag_of_node o b) n.1 ∙ node_tag s i n.0 (is.ends i) at b lb
+        ∙ ap (λ (x : Local). (x.blocks b).tag) (sym (is.joined.locals i li)));
     words = λ i address li la. (let n = node_at i li in let at = is.nodes i n.0 n.1 in
         ap (λ o. word_of_node o address) n.1 ∙ node_word s i n.0 (is.ends i) at address (block_within address la)
         ∙ ap (λ (x : Local). word_here s.setup x.blocks address) (sym (is.joined.locals i li)));

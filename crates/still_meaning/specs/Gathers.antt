@@ -36,7 +36,8 @@ pub record IsGathered (s : Setup) (code : Code) (g : World) (r : GatheredShown) 
   pub ends : ℕ → Course
   pub left : Wires
   pub counts : ℕ → Tally
-  pub replay : (i : ℕ) → i < s.shape.nodes → ReplaysBeside (Counts s code) s i (begin s i) (first_tally s i) (log_of r.logs i) (ends i) (counts i)
+  pub replay : (i : ℕ) → i < s.shape.nodes → ReplaysBeside (Counts s code) s i (begin s i) (first_tally s i) (log_of r.logs i)
+      (ends i) (counts i)
   pub agrees : Agrees s.shape.nodes ends left
   pub joined : IsJoined s.shape.nodes ends left g
   pub tells : TellsOf s g counts r

@@ -1,6 +1,7 @@
 -- What holds of all nodes on one thread: an event of one is an event of all, messages that are handed over change nothing,
 -- schedules go on, tests tell what is enabled, and what is read is what the state has.
-use Rattle.std.specs.Prelude.{◌≡◌, ◌≢◌, ℕ, ◌+◌, ◌*◌, ◌<◌, List, [], ◌∷◌, ◌++◌, Option, None, Some, length, slice_get, slice_index, slice_set}
+use Rattle.std.specs.Prelude.{◌≡◌, ◌≢◌, ℕ, ◌+◌, ◌*◌, ◌<◌, List, [], ◌∷◌, ◌++◌, Option, None, Some, length, slice_get}
+use Rattle.std.specs.Prelude.{slice_index, slice_set}
 use Rattle.tw_base.specs.Shape.{IsWithinLimits}
 use Rattle.tw_base.specs.declared.entry.Entry.{Entry}
 use Rattle.tw_base.specs.declared.entry.Event.{Event}
@@ -55,7 +56,8 @@ HandedMessagesChangeNothing = (a b : StillShown) → Passes a b → GoesThrough 
 
 -- what is on the way where a message is in hand: behind what was handed over, before what waits in its sender
 abbrev pub holding : StillShown → Message → Wires
-holding a m f t c = front_of (slice_get a.nodes t) f c ++ (row_at a f t c ++ (onto f t c (m ∷ []) ++ unpushed (slice_get a.nodes f) f t c))
+holding a m f t c = front_of (slice_get a.nodes t) f c ++ (row_at a f t c
+    ++ (onto f t c (m ∷ []) ++ unpushed (slice_get a.nodes f) f t c))
 
 -- the message that waited longest is taken out of node k
 abbrev pub TakenInHand : Type 0
@@ -119,12 +121,14 @@ SchedulesSettle =
 
 -- where node n keeps no message of a wire to it, none is on the way
 abbrev pub KeepsFronts : StillShown → ℕ → Shown → Type 0
-KeepsFronts a i n = (f : ℕ) (c : Chan) → f < a.setup.shape.nodes → front_at n f c ≡ None → row_at a f i c ++ unpushed (slice_get a.nodes f) f i c ≡ []
+KeepsFronts a i n = (f : ℕ) (c : Chan) → f < a.setup.shape.nodes → front_at n f c ≡ None →
+    row_at a f i c ++ unpushed (slice_get a.nodes f) f i c ≡ []
 
 -- a word a node, whose bits are the node's tests
 pub record AreTests (a : StillShown) (words : List ℕ) : Type 0 where
   pub count : length words ≡ a.setup.shape.nodes
-  pub tests : (i : ℕ) (n : Shown) → slice_get a.nodes i ≡ Some n → truths (2 + 2 * a.setup.shape.nodes) (slice_index words i) ≡ node_tests n
+  pub tests : (i : ℕ) (n : Shown) → slice_get a.nodes i ≡ Some n →
+      truths (2 + 2 * a.setup.shape.nodes) (slice_index words i) ≡ node_tests n
   pub fronts : (i : ℕ) (n : Shown) → slice_get a.nodes i ≡ Some n → KeepsFronts a i n
 
 abbrev pub TestsTellWhatIsEnabled : Type 0

@@ -76,7 +76,8 @@ pub record GoesThrough (old new : StillShown) (es : List Entry) (Ran : World →
   pub ran :
       (g : World) →
       IsStill old g →
-      (h : World) × Ran g es h × IsStill new h × RunsBeside (Counts old.setup old.code) old.setup g (tallies old) es h (tallies new)
+      (h : World) × Ran g es h × IsStill new h × RunsBeside (Counts old.setup old.code) old.setup g (tallies old) es h
+      (tallies new)
 
 -- whatever state it is, the event is not enabled there
 abbrev pub IsDisabled : StillShown → Event → Type 0
@@ -86,7 +87,8 @@ IsDisabled s e = (g : World) → IsStill s g → ¬ IsEnabled s.setup g e
 pub record IsSpread (s : StillShown) : Type 0 where
   pub out : (i : ℕ) (n : Shown) → slice_get s.nodes i ≡ Some n → n.waiting ≡ []
   pub fronts :
-      (f t : ℕ) (c : Chan) (n : Shown) → slice_get s.nodes t ≡ Some n → f < s.setup.shape.nodes → front_at n f c ≡ None → row_at s f t c ≡ []
+      (f t : ℕ) (c : Chan) (n : Shown) → slice_get s.nodes t ≡ Some n → f < s.setup.shape.nodes → front_at n f c ≡ None →
+      row_at s f t c ≡ []
 
 -- nothing more can happen: the messages are with their receivers, and no test of a node is true
 pub record IsAtRest (s : StillShown) : Type 0 where

@@ -1,4 +1,6 @@
-ghost use Rattle.still_meaning.specs.Laws.{EventsOfOneAreOfAll, FirstMessagesHaveTheNextNumber, HandedMessagesChangeNothing, PutBehind, RunsGoOn, SchedulesGoOn, SchedulesSettle, TakenInHand, TestsTellWhatIsEnabled, WhatIsReadIsTheStates};
+ghost use Rattle.still_meaning.specs.Laws.{EventsOfOneAreOfAll, FirstMessagesHaveTheNextNumber, HandedMessagesChangeNothing};
+ghost use Rattle.still_meaning.specs.Laws.{PutBehind, RunsGoOn, SchedulesGoOn, SchedulesSettle, TakenInHand};
+ghost use Rattle.still_meaning.specs.Laws.{TestsTellWhatIsEnabled, WhatIsReadIsTheStates};
 
 /// An event of one node is an event of all nodes and the messages between them.
 pub fn events_of_one_are_of_all()

@@ -1,5 +1,6 @@
 -- One node makes an event: what becomes of all nodes, and of what is on the way.
-use Rattle.std.proofs.Common.{◌≡◌, ◌≢◌, ◌∙◌, ℕ, ◌-◌, ◌<◌, Bool, true, false, if◌then◌else◌, List, [], ◌∷◌, ◌++◌, ◌⊎◌, Option, Some, None, Result, Ok, Err, length, length-append, get_or, refl, ap, sym, subst, arith, inl, inr}
+use Rattle.std.proofs.Common.{◌≡◌, ◌≢◌, ◌∙◌, ℕ, ◌-◌, ◌<◌, Bool, true, false, if◌then◌else◌, List, [], ◌∷◌, ◌++◌, ◌⊎◌, Option}
+use Rattle.std.proofs.Common.{Some, None, Result, Ok, Err, length, length-append, get_or, refl, ap, sym, subst, arith, inl, inr}
 use Rattle.std.specs.Prelude.{OnErr, OnOk, option_to_list, slice_get, slice_set}
 use Rattle.std.specs.List.{slice_index_or}
 use Rattle.std.proofs.lemmas.Bool.{cases_eq}
@@ -28,7 +29,8 @@ use Rattle.still_nodes.proofs.Moving.{in_nodes}
 use Rattle.still_nodes.proofs.Parts.{node_seen}
 use Rattle.still_nodes.proofs.Places.{spread_waits}
 use Rattle.still_nodes.specs.Handing.{IsFilled, IsSpreadBut, Refills, waiting_of}
-use Rattle.still_nodes.specs.Making.{Acts, IsWithin, Made, MadeAtMost, MakesRoom, MayMake, NodeActs, NodeMakes, RefillsAfter, none, one}
+use Rattle.still_nodes.specs.Making.{Acts, IsWithin, Made, MadeAtMost, MakesRoom, MayMake, NodeActs, NodeMakes, RefillsAfter}
+use Rattle.still_nodes.specs.Making.{none, one}
 
 -- ---- room is made
 

@@ -1,5 +1,6 @@
 -- The message that has waited longest at a node goes to its receiver, or behind those of its wire.
-use Rattle.std.proofs.Common.{◌≡◌, ◌∙◌, ℕ, suc, ◌<◌, Bool, true, false, List, [], ◌∷◌, ◌++◌, Option, Some, None, length, refl, ap, sym, subst, arith, append_assoc, append-nil, inl, inr}
+use Rattle.std.proofs.Common.{◌≡◌, ◌∙◌, ℕ, suc, ◌<◌, Bool, true, false, List, [], ◌∷◌, ◌++◌, Option, Some, None, length, refl}
+use Rattle.std.proofs.Common.{ap, sym, subst, arith, append_assoc, append-nil, inl, inr}
 use Rattle.std.specs.Prelude.{option_to_list, slice_get}
 use Rattle.std.specs.List.{slice_index_or}
 use Rattle.std.proofs.lemmas.Bool.{cases_eq}
@@ -14,8 +15,11 @@ use Rattle.node_meaning.specs.Stands.{IsFit}
 use Rattle.still_meaning.proofs.Handing.{next_number, on_it, popped, put_behind, put_first, row_put}
 use Rattle.still_meaning.specs.Laws.{holding}
 use Rattle.still_meaning.specs.Stills.{IsNodeAt, AreWhole, Passes, StillShown, flight, front_of, row_at, unpushed}
-use Rattle.still_nodes.specs.Handing.{Accepts, HandsTo, IsFilled, IsFirstOut, LeavesOthers, MayHandOver, Pops, queue_at, waiting_of, waits_at, with_queue, MayAccept}
-use Rattle.still_nodes.proofs.Fronts.{NodesStay, accept_fronts, accept_stays, accept_waits, count_same, get_here, get_other, no_front, nodes_more, on_its_own, one_stays, onto_more, onto_none, pop_fronts, pop_stays, pop_waits, rows_count, rows_places, small_place, unpushed_is}
+use Rattle.still_nodes.specs.Handing.{Accepts, HandsTo, IsFilled, IsFirstOut, LeavesOthers, MayHandOver, Pops, queue_at}
+use Rattle.still_nodes.specs.Handing.{waiting_of, waits_at, with_queue, MayAccept}
+use Rattle.still_nodes.proofs.Fronts.{NodesStay, accept_fronts, accept_stays, accept_waits, count_same, get_here, get_other}
+use Rattle.still_nodes.proofs.Fronts.{no_front, nodes_more, on_its_own, one_stays, onto_more, onto_none, pop_fronts, pop_stays}
+use Rattle.still_nodes.proofs.Fronts.{pop_waits, rows_count, rows_places, small_place, unpushed_is}
 use Rattle.still_nodes.proofs.Places.{node_there}
 use Rattle.still_nodes.proofs.Lists.{each_get, first_rest, left_empty, right_empty}
 

@@ -1,5 +1,6 @@
 -- What the calls at one node of them give.
-use Rattle.std.proofs.Common.{◌≡◌, ◌∙◌, ℕ, ◌<◌, ◌≤◌, ◌⊎◌, List, [], ◌∷◌, ◌++◌, Option, Some, None, length, get_or, set, refl, ap, sym, subst, inl, inr}
+use Rattle.std.proofs.Common.{◌≡◌, ◌∙◌, ℕ, ◌<◌, ◌≤◌, ◌⊎◌, List, [], ◌∷◌, ◌++◌, Option, Some, None, length, get_or, set, refl}
+use Rattle.std.proofs.Common.{ap, sym, subst, inl, inr}
 use Rattle.std.specs.Prelude.{IfSome, IsSome, option_to_list, slice_get}
 use Rattle.std.proofs.lemmas.Option.{slice_get-get_or, slice_get_cases}
 use Rattle.tw_base.specs.declared.message.Message.{Message}

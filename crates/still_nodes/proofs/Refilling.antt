@@ -1,5 +1,6 @@
 -- What follows first on a wire goes to the receiver.
-use Rattle.std.proofs.Common.{◌≡◌, ◌∙◌, ℕ, ◌<◌, true, List, [], ◌∷◌, ◌++◌, Option, Some, None, length, refl, ap, sym, subst, append_assoc}
+use Rattle.std.proofs.Common.{◌≡◌, ◌∙◌, ℕ, ◌<◌, true, List, [], ◌∷◌, ◌++◌, Option, Some, None, length, refl, ap, sym, subst}
+use Rattle.std.proofs.Common.{append_assoc}
 use Rattle.std.specs.Prelude.{option_to_list, slice_get}
 use Rattle.std.proofs.lemmas.Option.{same_Some}
 use Rattle.tw_base.specs.Lists.{Each}
@@ -18,7 +19,8 @@ use Rattle.node_meaning.specs.Tallies.{Counts, first_tally}
 use Rattle.still_meaning.proofs.Handing.{next_number, refilled}
 use Rattle.still_meaning.specs.Stills.{IsNodeAt, AreWhole, Passes, StillShown, flight, front_of, row_at}
 use Rattle.still_nodes.specs.Handing.{Accepts, IsFilled, MayAccept, Refills, queue_at, waiting_of, with_queue}
-use Rattle.still_nodes.proofs.Fronts.{NodesStay, accept_fronts, accept_stays, accept_waits, count_same, get_other, one_stays, on_its_own, onto_one, queue_taken, rows_count, rows_places, unpushed_is}
+use Rattle.still_nodes.proofs.Fronts.{NodesStay, accept_fronts, accept_stays, accept_waits, count_same, get_other, one_stays}
+use Rattle.still_nodes.proofs.Fronts.{on_its_own, onto_one, queue_taken, rows_count, rows_places, unpushed_is}
 use Rattle.still_nodes.proofs.Lists.{left_empty, right_empty}
 use Rattle.still_nodes.proofs.Handed.{passes_none}
 use Rattle.still_nodes.proofs.Places.{node_there}

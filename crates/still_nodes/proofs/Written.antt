@@ -1,5 +1,6 @@
 -- What the methods leave of all nodes, where their parts are written one after another.
-use Rattle.std.proofs.Common.{◌≡◌, ◌∙◌, ℕ, ◌+◌, ◌*◌, ◌<◌, ◌^◌, ◌↔◌, Bool, false, List, [], ◌∷◌, ◌++◌, Option, Some, None, length, get_or, refl, ap, sym, subst}
+use Rattle.std.proofs.Common.{◌≡◌, ◌∙◌, ℕ, ◌+◌, ◌*◌, ◌<◌, ◌^◌, ◌↔◌, Bool, false, List, [], ◌∷◌, ◌++◌, Option, Some, None}
+use Rattle.std.proofs.Common.{length, get_or, refl, ap, sym, subst}
 use Rattle.std.specs.Prelude.{IsTrue, is_some, option_to_list, slice_get, slice_set}
 use Rattle.std.specs.List.{slice_index_or}
 use Rattle.std.specs.Global.{Vec}
@@ -15,15 +16,18 @@ use Rattle.handler_code.specs.declared.code.Code.{Code}
 use Rattle.node_meaning.specs.Nodes.{Shown, front_at, node_tests}
 use Rattle.node_parts.specs.Truths.{truths}
 use Rattle.still_meaning.specs.Stills.{AreWhole, Passes, StillShown, flight, front_of, unpushed}
-use Rattle.still_nodes.specs.Handing.{Accepts, HandsOver, HandsTo, IsFirstOut, LeavesOthers, MayAccept, MayHandOver, Pops, Refills, queue_at, waiting_of, waits_at, with_queue}
+use Rattle.still_nodes.specs.Handing.{Accepts, HandsOver, HandsTo, IsFirstOut, LeavesOthers, MayAccept, MayHandOver, Pops}
+use Rattle.still_nodes.specs.Handing.{Refills, queue_at, waiting_of, waits_at, with_queue}
 use Rattle.still_nodes.specs.Parts.{Rows, all_of}
 use Rattle.still_nodes.specs.Telling.{IsWordAt}
 use Rattle.still_nodes.proofs.Fronts.{count_same, rows_count}
 use Rattle.still_nodes.proofs.Lists.{no_first}
 use Rattle.still_nodes.proofs.Handed.{whole_after}
-use Rattle.still_nodes.proofs.Moving.{behind_count, behind_others, behind_out, behind_passes, behind_places, from_is, in_nodes, is_node, may_hand_over, over_others, over_out, over_passes, popped_is_first, to_within}
+use Rattle.still_nodes.proofs.Moving.{behind_count, behind_others, behind_out, behind_passes, behind_places, from_is, in_nodes}
+use Rattle.still_nodes.proofs.Moving.{is_node, may_hand_over, over_others, over_out, over_passes, popped_is_first, to_within}
 use Rattle.still_nodes.proofs.Parts.{node_seen}
-use Rattle.still_nodes.proofs.Refilling.{follows, follows_count, follows_passes, follows_places, may_follow, nothing_moves, on_its_way}
+use Rattle.still_nodes.proofs.Refilling.{follows, follows_count, follows_passes, follows_places, may_follow, nothing_moves}
+use Rattle.still_nodes.proofs.Refilling.{on_its_way}
 
 -- nothing that was handed over of this wire is on its way
 abbrev pub IsClear : List Shown → Rows → ℕ → ℕ → Chan → Type 0

@@ -1,7 +1,8 @@
 ghost use Rattle.std.specs.Prelude.{◌≡◌, ◌≢◌, ◌<◌, ◌++◌, ◌↔◌, [], IfSome, IsTrue, OnErr, OnOk, length, option_to_list, slice_get};
 ghost use Rattle.std.specs.Option.{option_copied};
 ghost use Rattle.still_meaning.specs.Stills.{front_of};
-ghost use Rattle.still_nodes.specs.Handing.{Accepts, HandsOver, IsFirstOut, MayAccept, MayHandOver, Pops, queue_at, waiting_of, with_behind, with_queue};
+ghost use Rattle.still_nodes.specs.Handing.{Accepts, HandsOver, IsFirstOut, MayAccept, MayHandOver, Pops, queue_at, waiting_of};
+ghost use Rattle.still_nodes.specs.Handing.{with_behind, with_queue};
 
 use crate::row::Row;
 use node_core::Node;

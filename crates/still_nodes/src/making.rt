@@ -2,7 +2,8 @@ ghost use Rattle.std.specs.Prelude.{◌≡◌, ◌<◌, true, length, OnErr, OnO
 ghost use Rattle.node_meaning.specs.Nodes.{test_of};
 ghost use Rattle.still_meaning.specs.Laws.{node_of};
 ghost use Rattle.still_meaning.specs.Stills.{IsSpread, Passes};
-ghost use Rattle.still_nodes.specs.Making.{Acts, IsWithin, Made, MadeAtMost, MakesRoom, MayMake, NodeActs, NodeMakes, RefillsAfter};
+ghost use Rattle.still_nodes.specs.Making.{Acts, IsWithin, Made, MadeAtMost, MakesRoom, MayMake, NodeActs, NodeMakes};
+ghost use Rattle.still_nodes.specs.Making.{RefillsAfter};
 ghost use Rattle.still_nodes.specs.Telling.{Tells};
 
 use crate::still::Still;

@@ -1,5 +1,6 @@
 -- Handler after handler, the code becomes that of the protocol.
-use Rattle.std.proofs.Common.{◌≡◌, ℕ, zero, suc, ◌+◌, ◌<◌, true, List, [], ◌∷◌, ◌++◌, Option, Some, None, length, refl, sym, ap, subst, ◌∙◌, arith, append_assoc, length-append, replicate}
+use Rattle.std.proofs.Common.{◌≡◌, ℕ, zero, suc, ◌+◌, ◌<◌, true, List, [], ◌∷◌, ◌++◌, Option, Some, None, length, refl, sym, ap}
+use Rattle.std.proofs.Common.{subst, ◌∙◌, arith, append_assoc, length-append, replicate}
 use Rattle.std.specs.Prelude.{map, slice_get, ◌↔◌, IfOk, Result, Ok, Err}
 use Rattle.tw_base.specs.declared.memory.Memory.{Memory}
 use Rattle.std.specs.Option.{option_map}
@@ -17,8 +18,10 @@ use Rattle.handler_code.specs.declared.code.Rest.{Rest}
 use Rattle.handler_code.specs.Live.{ReadsFirst, later, read_by, reads}
 use Rattle.handler_code.specs.Machine.{is_live}
 use Rattle.compiled_meaning.specs.Compiled.{in_order, loops_in, rests_by, rests_in}
-use Rattle.compiled_meaning.specs.Whole.{Entry, IsCode, door_of, doors_from, entries_code, entries_from, entries_of, entry_code, place_by, rest_doors, rest_places}
-use Rattle.suspend_split.specs.Drafts.{HasLive, no_code, reads_low, rest_after, rests_after, with_entries, with_entry, with_live, with_ops}
+use Rattle.compiled_meaning.specs.Whole.{Entry, IsCode, door_of, doors_from, entries_code, entries_from, entries_of, entry_code}
+use Rattle.compiled_meaning.specs.Whole.{place_by, rest_doors, rest_places}
+use Rattle.suspend_split.specs.Drafts.{HasLive, no_code, reads_low, rest_after, rests_after, with_entries, with_entry}
+use Rattle.suspend_split.specs.Drafts.{with_live, with_ops}
 use Rattle.live_slots.specs.Tables.{IsExact, IsReadFirst}
 
 map-append : {X Y : Type 0} (f : X → Y) (xs ys : List X) → map f (xs ++ ys) ≡ map f xs ++ map f ys
@@ -35,12 +38,15 @@ length-replicate (suc n) x = ap suc (length-replicate n x)
 
 -- ---- rests of ops
 
-place_step : (door at : ℕ) (o : OpCode) (rs : List Rest) (places : List ℕ) → map (λ r. r.at) rs ≡ places → map (λ r. r.at) (rest_after door at o ++ rs) ≡ place_by o at places
+place_step : (door at : ℕ) (o : OpCode) (rs : List Rest) (places : List ℕ) → map (λ r. r.at) rs ≡ places →
+    map (λ r. r.at) (rest_after door at o ++ rs) ≡ place_by o at places
 place_step door at (op.Suspend s r) rs places e = ap (λ l. (at + 1) ∷ l) e
 place_step door at _ rs places e = e
 
-owner_step : (door at : ℕ) (o : OpCode) (rs : List Rest) (n : ℕ) → map (λ r. r.door) rs ≡ replicate n door → map (λ r. r.door) (rest_after door at o ++ rs) ≡ replicate (rests_by o n) door
-owner_step door at (op.Suspend s r) rs n e = let next : suc n ≡ n + 1 = omega arith in ap (λ l. door ∷ l) e ∙ ap (λ k. replicate k door) next
+owner_step : (door at : ℕ) (o : OpCode) (rs : List Rest) (n : ℕ) → map (λ r. r.door) rs ≡ replicate n door →
+    map (λ r. r.door) (rest_after door at o ++ rs) ≡ replicate (rests_by o n) door
+owner_step door at (op.Suspend s r) rs n e = let next : suc n ≡ n + 1 = omega arith in ap (λ l. door ∷ l) e
+    ∙ ap (λ k. replicate k door) next
 owner_step door at _ rs n e = e
 
 module _ (door at : ℕ) where
@@ -52,7 +58,8 @@ module _ (door at : ℕ) where
   places_from n [] = refl
   places_from n (o ∷ ops) =
       let next : at + (n + 1) ≡ at + n + 1 = omega arith in
-      place_step door (at + n) o (from (n + 1) ops) (rest_places (at + n + 1) ops) (places_from (n + 1) ops ∙ ap (λ k. rest_places k ops) next)
+      place_step door (at + n) o (from (n + 1) ops) (rest_places (at + n + 1) ops)
+      (places_from (n + 1) ops ∙ ap (λ k. rest_places k ops) next)
 
   owners_from : (n : ℕ) (ops : List OpCode) → map (λ r. r.door) (from n ops) ≡ replicate (rests_in ops) door
   unfolding from
@@ -69,7 +76,8 @@ module _ (door at : ℕ) where
 
   length-rests_after : (ops : List OpCode) → length (rests_after door at ops) ≡ rests_in ops
   length-rests_after ops =
-      sym (length-map (λ (r : Rest). r.door) (rests_after door at ops)) ∙ ap length (owners_after ops) ∙ length-replicate (rests_in ops) door
+      sym (length-map (λ (r : Rest). r.door) (rests_after door at ops)) ∙ ap length (owners_after ops)
+      ∙ length-replicate (rests_in ops) door
 
 place_by-more : (o : OpCode) (at : ℕ) (xs ys : List ℕ) → place_by o at (xs ++ ys) ≡ place_by o at xs ++ ys
 place_by-more (op.Suspend s r) at xs ys = refl
@@ -102,7 +110,8 @@ module _ (p : Protocol) where
   record Draws (all : List Entry) (code : Code) (entries : List Entry) : Type 0 where
     ops : code.ops ++ ops_from (length code.ops) (length code.rests) 0 entries ≡ entries_code p all
     doors : code.doors ++ doors_from p (length code.ops) (length code.rests) entries ≡ doors_from p 0 0 all
-    owners : map (λ r. r.door) code.rests ++ rest_doors p (length code.ops) (length code.rests) (length code.doors) entries ≡ rest_doors p 0 0 0 all
+    owners : map (λ r. r.door) code.rests ++ rest_doors p (length code.ops) (length code.rests) (length code.doors) entries
+        ≡ rest_doors p 0 0 0 all
     places : map (λ r. r.at) code.rests ≡ rest_places 0 code.ops
 
   module _ (all : List Entry) where
@@ -132,7 +141,8 @@ module _ (p : Protocol) where
 
       r-after : length (code.rests ++ rests_after door at ops) ≡ r + rests_in ops
       unfolding r
-      r-after = length-append code.rests (rests_after door at ops) ∙ ap (λ n. length code.rests + n) (length-rests_after door at ops)
+      r-after = length-append code.rests (rests_after door at ops)
+          ∙ ap (λ n. length code.rests + n) (length-rests_after door at ops)
 
       door-after : length (code.doors ++ door_of p d at ops ∷ []) ≡ door + 1
       unfolding door
@@ -142,24 +152,31 @@ module _ (p : Protocol) where
       unfolding at r door ops after ops_from
       drawn = record {
         ops =
-            append_assoc code.ops ops (ops_from (length (code.ops ++ ops)) (length (code.rests ++ rests_after door at ops)) 0 entries)
+            append_assoc code.ops ops (ops_from (length (code.ops ++ ops))
+            (length (code.rests ++ rests_after door at ops)) 0 entries)
             ∙ ap (λ l. code.ops ++ (ops ++ l))
             (ap (λ n. ops_from n (length (code.rests ++ rests_after door at ops)) 0 entries) at-after
             ∙ ap (λ n. ops_from (at + length ops) n 0 entries) r-after
             ∙ sym (any_slot entries (at + length ops) (r + rests_in ops) (0 + loops_in ops)))
             ∙ h.ops;
         doors =
-            append_assoc code.doors (door_of p d at ops ∷ []) (doors_from p (length (code.ops ++ ops)) (length (code.rests ++ rests_after door at ops)) entries)
+            append_assoc code.doors (door_of p d at ops ∷ [])
+            (doors_from p (length (code.ops ++ ops)) (length (code.rests ++ rests_after door at ops)) entries)
             ∙ ap (λ l. code.doors ++ door_of p d at ops ∷ l)
             (ap (λ n. doors_from p n (length (code.rests ++ rests_after door at ops)) entries) at-after
             ∙ ap (λ n. doors_from p (at + length ops) n entries) r-after)
             ∙ h.doors;
         owners =
-            ap (λ l. l ++ rest_doors p (length (code.ops ++ ops)) (length (code.rests ++ rests_after door at ops)) (length (code.doors ++ door_of p d at ops ∷ [])) entries)
-            (map-append (λ (q : Rest). q.door) code.rests (rests_after door at ops) ∙ ap (λ l. map (λ (q : Rest). q.door) code.rests ++ l) (owners_after door at ops))
-            ∙ append_assoc (map (λ (q : Rest). q.door) code.rests) (replicate (rests_in ops) door) (rest_doors p (length (code.ops ++ ops)) (length (code.rests ++ rests_after door at ops)) (length (code.doors ++ door_of p d at ops ∷ [])) entries)
+            ap (λ l. l ++ rest_doors p (length (code.ops ++ ops)) (length (code.rests ++ rests_after door at ops))
+            (length (code.doors ++ door_of p d at ops ∷ [])) entries)
+            (map-append (λ (q : Rest). q.door) code.rests (rests_after door at ops)
+            ∙ ap (λ l. map (λ (q : Rest). q.door) code.rests ++ l) (owners_after door at ops))
+            ∙ append_assoc (map (λ (q : Rest). q.door) code.rests) (replicate (rests_in ops) door)
+            (rest_doors p (length (code.ops ++ ops)) (length (code.rests ++ rests_after door at ops))
+            (length (code.doors ++ door_of p d at ops ∷ [])) entries)
             ∙ ap (λ l. map (λ (q : Rest). q.door) code.rests ++ (replicate (rests_in ops) door ++ l))
-            (ap (λ n. rest_doors p n (length (code.rests ++ rests_after door at ops)) (length (code.doors ++ door_of p d at ops ∷ [])) entries) at-after
+            (ap (λ n. rest_doors p n (length (code.rests ++ rests_after door at ops))
+            (length (code.doors ++ door_of p d at ops ∷ [])) entries) at-after
             ∙ ap (λ n. rest_doors p (at + length ops) n (length (code.doors ++ door_of p d at ops ∷ [])) entries) r-after
             ∙ ap (λ n. rest_doors p (at + length ops) (r + rests_in ops) n entries) door-after)
             ∙ h.owners;
@@ -182,7 +199,8 @@ low_read (op.Get j) k low e = let same : j ≡ k = cc in subst (λ n. n < 32) sa
 low_read (op.EachNext j h to) k low e = let same : h ≡ k = cc in subst (λ n. n < 32) same (ltb-true h 32 low)
 low_read _ k low e = absurd (cc)
 
-low_op : (ops : List OpCode) (at : ℕ) (o : OpCode) → list_all reads_low ops ≡ true → slice_get ops at ≡ Some o → reads_low o ≡ true
+low_op : (ops : List OpCode) (at : ℕ) (o : OpCode) → list_all reads_low ops ≡ true → slice_get ops at ≡ Some o →
+    reads_low o ≡ true
 low_op [] at o low e = absurd (cc)
 low_op (x ∷ ops) zero o low e =
     let same : x ≡ o = cc in subst (λ q. reads_low q ≡ true) same (and_parts (reads_low x) (list_all reads_low ops) low).0
@@ -200,13 +218,16 @@ module _ (ops : List OpCode) (low : list_all reads_low ops ≡ true) (table : Li
     λ r. let first : IsReadFirst ops b.at k = record { small = below ops low r; reads = r } in (exact b.at k).1 first,
   )
 
-  live_at : (o : Option Rest) (rest : Rest) → option_map (with_live table) o ≡ Some rest → (is_live rest k ≡ true) ↔ ReadsFirst ops rest.at k
+  live_at : (o : Option Rest) (rest : Rest) → option_map (with_live table) o ≡ Some rest →
+      (is_live rest k ≡ true) ↔ ReadsFirst ops rest.at k
   live_at None rest e = absurd (let never : ⊥ = cc in never)
   live_at (Some b) rest e =
       let same : with_live table b ≡ rest = cc in
       subst (λ (q : Rest). (is_live q k ≡ true) ↔ ReadsFirst ops q.at k) same (live_here b)
 
-live_in : (ops : List OpCode) (low : list_all reads_low ops ≡ true) (table : List ℕ) (rests : List Rest) → IsExact ops table → (r k : ℕ) (rest : Rest) → slice_get (map (with_live table) rests) r ≡ Some rest → (is_live rest k ≡ true) ↔ ReadsFirst ops rest.at k
+live_in : (ops : List OpCode) (low : list_all reads_low ops ≡ true) (table : List ℕ) (rests : List Rest) → IsExact ops table →
+    (r k : ℕ) (rest : Rest) → slice_get (map (with_live table) rests) r ≡ Some rest →
+    (is_live rest k ≡ true) ↔ ReadsFirst ops rest.at k
 live_in ops low table rests exact r k rest e =
     live_at ops low table exact k (slice_get rests r) rest (sym (slice_get-map (with_live table) rests r) ∙ e)
 
@@ -218,9 +239,11 @@ same_owners : (table : List ℕ) (rests : List Rest) → map (λ r. r.door) (map
 same_owners table [] = refl
 same_owners table (r ∷ rests) = ap (λ l. r.door ∷ l) (same_owners table rests)
 
-module _ (p : Protocol) (code : Code) (is : code ≡ with_entries p no_code (entries_of p)) (low : list_all reads_low code.ops ≡ true) (table : List ℕ) (exact : IsExact code.ops table) where
+module _ (p : Protocol) (code : Code) (is : code ≡ with_entries p no_code (entries_of p))
+    (low : list_all reads_low code.ops ≡ true) (table : List ℕ) (exact : IsExact code.ops table) where
   draws : Draws p (entries_of p) code []
-  draws = subst (λ c. Draws p (entries_of p) c []) (sym is) (drawn_all p (entries_of p) (entries_of p) no_code (begun p (entries_of p)))
+  draws = subst (λ c. Draws p (entries_of p) c []) (sym is) (drawn_all p (entries_of p) (entries_of p) no_code
+      (begun p (entries_of p)))
 
   complete_by : IsCode p (record code { rests = map (with_live table) code.rests })
   unfolding ops_from
@@ -233,15 +256,20 @@ module _ (p : Protocol) (code : Code) (is : code ≡ with_entries p no_code (ent
   }
 
 -- the code of all handlers with the live slots of its rests is that of the protocol
-pub complete : (p : Protocol) (code full : Code) → code ≡ with_entries p no_code (entries_of p) → HasLive code full → IsCode p full
+pub complete : (p : Protocol) (code full : Code) → code ≡ with_entries p no_code (entries_of p) → HasLive code full →
+    IsCode p full
 complete p code full is h = subst (IsCode p) (sym h.is) (complete_by p code is h.low h.table h.exact)
 
-pub complete_if : (p : Protocol) (code : Code) (r : Result Code Memory) → code ≡ with_entries p no_code (entries_of p) → IfOk r (HasLive code) → IfOk r (IsCode p)
+pub complete_if : (p : Protocol) (code : Code) (r : Result Code Memory) → code ≡ with_entries p no_code (entries_of p) →
+    IfOk r (HasLive code) → IfOk r (IsCode p)
 complete_if p code (Ok full) is h = complete p code full is h
 complete_if p code (Err e) is h = tt
 
 -- from no code on
-pub from_none : (p q : Protocol) (code : Code) (ops : List OpCode) (doors : List Door) (rests : List Rest) (states : List State) → code ≡ with_entries q (record { ops = ops; doors = doors; rests = rests }) (entries_from 0 states) → q ≡ p → ops ≡ [] → doors ≡ [] → rests ≡ [] → states ≡ p.states → code ≡ with_entries p no_code (entries_of p)
+pub from_none : (p q : Protocol) (code : Code) (ops : List OpCode) (doors : List Door) (rests : List Rest)
+    (states : List State) → code ≡ with_entries q (record { ops = ops; doors = doors; rests = rests })
+    (entries_from 0 states) → q ≡ p → ops ≡ [] → doors ≡ [] → rests ≡ [] → states ≡ p.states →
+    code ≡ with_entries p no_code (entries_of p)
 from_none p q code ops doors rests states e a b c d f =
     e ∙ ap (λ (x : Protocol). with_entries x (record { ops = ops; doors = doors; rests = rests }) (entries_from 0 states)) a
     ∙ ap (λ x. with_entries p (record { ops = x; doors = doors; rests = rests }) (entries_from 0 states)) b

@@ -66,7 +66,8 @@ fn handler_ops(
     at: usize,
     rest: usize,
 ) -> Result<Ops, Memory>
-    ensures { IfOk result (λ ops. ops ≡ code_of w.now.protocol.now names.now handler.now.body at rest (length names.now) ++ OpCode.Done ∷ []) }
+    ensures { IfOk result (λ ops. ops ≡ code_of w.now.protocol.now names.now handler.now.body at rest (length names.now)
+        ++ OpCode.Done ∷ []) }
 {
     let slot = names.len();
     let start = Start { at, rest, slot };

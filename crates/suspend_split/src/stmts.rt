@@ -100,7 +100,9 @@ fn each_ops(
     name: &Name,
     e: &Expr,
 ) -> Result<Ops, Memory>
-    ensures { IfOk result (λ ops. ops ≡ each_code (expr_code w.now.protocol.now names.now e.now) (unwrap_or (slot_of names.now name.now) 0) (code_of w.now.protocol.now names.now body.now) start.at start.rest start.slot) }
+    ensures { IfOk result (λ ops. ops ≡ each_code (expr_code w.now.protocol.now names.now e.now)
+        (unwrap_or (slot_of names.now name.now) 0) (code_of w.now.protocol.now names.now body.now) start.at start.rest
+        start.slot) }
 {
     let set = expr_ops(alloc, w.protocol, names, e)?;
     let turn = start.skip(set.len())?.skip(1)?;
@@ -116,7 +118,8 @@ fn assign_ops(
     name: &Name,
     e: &Expr,
 ) -> Result<Ops, Memory>
-    ensures { IfOk result (λ ops. ops ≡ expr_code p.now names.now e.now ++ op_list (put_op (slot_of names.now name.now) (info_number p.now name.now))) }
+    ensures { IfOk result (λ ops. ops ≡ expr_code p.now names.now e.now
+        ++ op_list (put_op (slot_of names.now name.now) (info_number p.now name.now))) }
 {
     let ops = expr_ops(alloc, p, names, e)?;
     let name = name.bytes();
@@ -153,7 +156,8 @@ fn args_ops(
 
 /// A loop: its set is put into a slot, and each turn begins at `start`.
 fn with_each(set: Ops, body: Ops, variable: usize, slot: usize, start: usize) -> Result<Ops, Memory>
-    ensures { IfOk result (λ ops. ops ≡ set ++ OpCode.Put slot ∷ OpCode.EachNext variable slot (start + 1 + length body + 1) ∷ (body ++ OpCode.JumpBack start ∷ [])) }
+    ensures { IfOk result (λ ops. ops ≡ set ++ OpCode.Put slot ∷ OpCode.EachNext variable slot (start + 1 + length body + 1) ∷
+        (body ++ OpCode.JumpBack start ∷ [])) }
 {
     let to = sum(sum(sum(start, 1)?, body.len())?, 1)?;
     let (variable, slot) = (small(variable)?, small(slot)?);

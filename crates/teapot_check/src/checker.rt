@@ -5,7 +5,8 @@ ghost use Rattle.teapot_tree.specs.Grammar.{IsTree};
 ghost use Rattle.teapot_check.specs.Answering.{IsAnswer};
 ghost use Rattle.teapot_check.specs.Handlers.{scopes_in};
 ghost use Rattle.teapot_rules.specs.Deeds.{scope_of};
-ghost use Rattle.teapot_rules.specs.Faults.{again_handlers, again_messages, again_params, again_states, body_lines, handler_lines, lines};
+ghost use Rattle.teapot_rules.specs.Faults.{again_handlers, again_messages, again_params, again_states, body_lines};
+ghost use Rattle.teapot_rules.specs.Faults.{handler_lines, lines};
 ghost use Rattle.teapot_rules.specs.Firsts.{all_rules, first_of_rules, last_rules, sooner};
 ghost use Rattle.teapot_rules.specs.Lists.{least, lesser};
 
@@ -96,7 +97,8 @@ fn in_handlers(alloc: Global, scopes: &[Scope], rule: Rule) -> Result<Option<u32
 
 /// The least line of what stands twice in the protocol, other than in one handler.
 fn twice_declared(p: &Protocol) -> Option<u32>
-    ensures { result ≡ lesser (least (again_messages p.now.messages)) (lesser (least (again_params p.now.infos)) (least (again_states p.now.states))) }
+    ensures { result ≡ lesser (least (again_messages p.now.messages))
+        (lesser (least (again_params p.now.infos)) (least (again_states p.now.states))) }
 {
     let infos = again(p.infos.items());
     let states = again(p.states.items());

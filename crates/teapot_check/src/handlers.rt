@@ -14,7 +14,8 @@ fn add<'a>(
     protocol: &'a Protocol,
     state: &'a State,
 ) -> Result<(), Memory>
-    ensures { OnOk result (map scope_of scopes.new ≡ map scope_of scopes.old ++ map (scope_in protocol.now state.now) state.now.handlers) }
+    ensures { OnOk result (map scope_of scopes.new ≡ map scope_of scopes.old
+        ++ map (scope_in protocol.now state.now) state.now.handlers) }
 {
     let handlers = state.handlers.items();
     for handler in handlers {

@@ -18,7 +18,9 @@ drop_past [] (suc i) h = refl
 drop_past (y ∷ ys) zero h = cc
 drop_past (y ∷ ys) (suc i) h = drop_past ys i h
 
-pub bound_more : (names names' : List Name) (values values' : List Value) (vars new all : List Bound) (n : Name) (v : Value) → names ≡ n ∷ names' → values ≡ v ∷ values' → new ≡ vars ++ record { name = n; value = v } ∷ [] → vars ++ bound names values ≡ all → new ++ bound names' values' ≡ all
+pub bound_more : (names names' : List Name) (values values' : List Value) (vars new all : List Bound) (n : Name) (v : Value) →
+    names ≡ n ∷ names' → values ≡ v ∷ values' → new ≡ vars ++ record { name = n; value = v } ∷ [] →
+    vars ++ bound names values ≡ all → new ++ bound names' values' ≡ all
 bound_more names names' values values' vars new all n v e f g h =
     let k : vars ++ bound (n ∷ names') (v ∷ values') ≡ all = rw (e, f) at h in
     rw (g, append_assoc) k
@@ -27,5 +29,6 @@ bound-nil : (names : List Name) → bound names [] ≡ []
 bound-nil [] = refl
 bound-nil (n ∷ names) = refl
 
-pub bound_done : (names : List Name) (values : List Value) (vars all : List Bound) → values ≡ [] → vars ++ bound names values ≡ all → vars ≡ all
+pub bound_done : (names : List Name) (values : List Value) (vars all : List Bound) → values ≡ [] →
+    vars ++ bound names values ≡ all → vars ≡ all
 bound_done names values vars all e h = rw (e, bound-nil, append-nil) at h

@@ -6,7 +6,9 @@ ghost use Rattle.teapot_meaning.specs.Depth.{depth};
 ghost use Rattle.teapot_meaning.specs.Names.{declared, error_number};
 ghost use Rattle.teapot_tree.specs.Scopes.{message_number, state_number};
 ghost use Rattle.teapot_meaning.specs.Values.{value_of};
-ghost use Rattle.teapot_meaning.specs.Steps.{assigned, assigned_info, branch, deferred, each, ended, installed, least_of, led_to, moved, out_to, resumes, sent, sent_all, set_of, suspends, tagged, turns, values_of, woken};
+ghost use Rattle.teapot_meaning.specs.Steps.{assigned, assigned_info, branch, deferred, each, ended, installed, least_of};
+ghost use Rattle.teapot_meaning.specs.Steps.{led_to, moved, out_to, resumes, sent, sent_all, set_of, suspends, tagged, turns};
+ghost use Rattle.teapot_meaning.specs.Steps.{values_of, woken};
 
 use sqlite_items::Boxed;
 use std::alloc::{AllocError, Global};

@@ -39,7 +39,8 @@ two-deep op c d m n x y h k lt =
       ]
     ]
 
-two-keeps : (op : Op) (c d : Cut) (m n : ℕ) (x y : Expr) → Keeps c m x → Keeps d n y → Keeps (two_of op c d) (max m n + 1) (e.Two op x y)
+two-keeps : (op : Op) (c d : Cut) (m n : ℕ) (x y : Expr) → Keeps c m x → Keeps d n y →
+    Keeps (two_of op c d) (max m n + 1) (e.Two op x y)
 two-keeps op c d m n x y h k = (
   λ le.
       let a : m ≤ 16 = omega arith in
@@ -81,7 +82,8 @@ level (Expr-F.Var w) = subst (At (Expr-F.Var w)) (sym (e.rolls-Var w)) (leaf-kee
 level (Expr-F.One a) = subst (At (Expr-F.One a.0)) (sym (e.rolls-One a.0)) (one-keeps u.One (cut a.0) (depth a.0) a.0 a.1)
 level (Expr-F.Not a) = subst (At (Expr-F.Not a.0)) (sym (e.rolls-Not a.0)) (one-keeps u.Not (cut a.0) (depth a.0) a.0 a.1)
 level (Expr-F.Count a) = subst (At (Expr-F.Count a.0)) (sym (e.rolls-Count a.0)) (one-keeps u.Count (cut a.0) (depth a.0) a.0 a.1)
-level (Expr-F.Two op a b) = subst (At (Expr-F.Two op a.0 b.0)) (sym (e.rolls-Two op a.0 b.0)) (two-keeps op (cut a.0) (cut b.0) (depth a.0) (depth b.0) a.0 b.0 a.1 b.1)
+level (Expr-F.Two op a b) = subst (At (Expr-F.Two op a.0 b.0)) (sym (e.rolls-Two op a.0 b.0))
+    (two-keeps op (cut a.0) (cut b.0) (depth a.0) (depth b.0) a.0 b.0 a.1 b.1)
 
 at_level : (y : Expr-F Part) → Within (roll-Expr (whole_of y))
 at_level y = rw (cut-roll (whole_of y), depth-roll (whole_of y)) (level y)

@@ -28,21 +28,28 @@ use Rattle.teapot_lines.proofs.Turns.{turn-whole}
 abbrev pub Leads : List Seen → Cut → Type 0
 Leads ts a = (held : List Open) (rest : List Seen) → read_from held Begin (ts ++ rest) ≡ read_from held (After a) rest
 
-infix-leads : (op : Op) (mark : Mark) (ts us : List Seen) (a b : Cut) → operator mark ≡ Some op → Leads ts a → Leads us b → Leads (two_spelled (Infix mark) ts us) (two_of op a b)
+infix-leads : (op : Op) (mark : Mark) (ts us : List Seen) (a b : Cut) → operator mark ≡ Some op → Leads ts a → Leads us b →
+    Leads (two_spelled (Infix mark) ts us) (two_of op a b)
 unfolding read_from
 infix-leads op mark ts us a b is left right held rest =
-    let regroup : two_spelled (Infix mark) ts us ++ rest ≡ Marked m.Open ∷ (ts ++ (Marked mark ∷ (us ++ (Marked m.Close ∷ rest)))) = simp append_assoc in
-    let turn : read_from (Left ∷ held) (After a) (Marked mark ∷ (us ++ (Marked m.Close ∷ rest))) ≡ read_from (Second op a ∷ held) Begin (us ++ (Marked m.Close ∷ rest)) = rw is refl in
+    let regroup : two_spelled (Infix mark) ts us ++ rest ≡ Marked m.Open ∷
+    (ts ++ (Marked mark ∷ (us ++ (Marked m.Close ∷ rest)))) = simp append_assoc in
+    let turn : read_from (Left ∷ held) (After a) (Marked mark ∷ (us ++ (Marked m.Close ∷ rest)))
+    ≡ read_from (Second op a ∷ held) Begin (us ++ (Marked m.Close ∷ rest)) = rw is refl in
     ap (read_from held Begin) regroup ∙ left (Left ∷ held) _ ∙ turn ∙ right (Second op a ∷ held) (Marked m.Close ∷ rest)
 
-word-leads : (op : Op) (key : Keyword) (ts us : List Seen) (a b : Cut) → begun key ≡ Some (Bracket (Two op)) → Leads ts a → Leads us b → Leads (two_spelled (Before key) ts us) (two_of op a b)
+word-leads : (op : Op) (key : Keyword) (ts us : List Seen) (a b : Cut) → begun key ≡ Some (Bracket (Two op)) → Leads ts a →
+    Leads us b → Leads (two_spelled (Before key) ts us) (two_of op a b)
 unfolding read_from
 word-leads op key ts us a b is left right held rest =
-    let regroup : two_spelled (Before key) ts us ++ rest ≡ Key key ∷ Marked m.Open ∷ (ts ++ (Marked m.Comma ∷ (us ++ (Marked m.Close ∷ rest)))) = simp append_assoc in
-    let turn : read_from held Begin (Key key ∷ Marked m.Open ∷ (ts ++ (Marked m.Comma ∷ (us ++ (Marked m.Close ∷ rest))))) ≡ read_from (First (Two op) ∷ held) Begin (ts ++ (Marked m.Comma ∷ (us ++ (Marked m.Close ∷ rest)))) = rw is refl in
+    let regroup : two_spelled (Before key) ts us ++ rest ≡ Key key ∷ Marked m.Open ∷
+    (ts ++ (Marked m.Comma ∷ (us ++ (Marked m.Close ∷ rest)))) = simp append_assoc in
+    let turn : read_from held Begin (Key key ∷ Marked m.Open ∷ (ts ++ (Marked m.Comma ∷ (us ++ (Marked m.Close ∷ rest)))))
+    ≡ read_from (First (Two op) ∷ held) Begin (ts ++ (Marked m.Comma ∷ (us ++ (Marked m.Close ∷ rest)))) = rw is refl in
     ap (read_from held Begin) regroup ∙ turn ∙ left (First (Two op) ∷ held) _ ∙ right (Second op a ∷ held) (Marked m.Close ∷ rest)
 
-two-leads : (op : Op) (ts us : List Seen) (a b : Cut) → Leads ts a → Leads us b → Leads (two_spelled (way op) ts us) (two_of op a b)
+two-leads : (op : Op) (ts us : List Seen) (a b : Cut) → Leads ts a → Leads us b →
+    Leads (two_spelled (way op) ts us) (two_of op a b)
 two-leads o.Add ts us a b = infix-leads o.Add m.Plus ts us a b refl
 two-leads o.Sub ts us a b = infix-leads o.Sub m.Minus ts us a b refl
 two-leads o.Eq ts us a b = infix-leads o.Eq m.Equal ts us a b refl
@@ -55,11 +62,13 @@ two-leads o.Has ts us a b = word-leads o.Has k.Has ts us a b refl
 two-leads o.With ts us a b = word-leads o.With k.With ts us a b refl
 two-leads o.Without ts us a b = word-leads o.Without k.Without ts us a b refl
 
-one-leads : (word : Unary) (key : Keyword) (ts : List Seen) (a : Cut) → begun key ≡ Some (Bracket (One word)) → Leads ts a → Leads (one_spelled key ts) (one_of word a)
+one-leads : (word : Unary) (key : Keyword) (ts : List Seen) (a : Cut) → begun key ≡ Some (Bracket (One word)) → Leads ts a →
+    Leads (one_spelled key ts) (one_of word a)
 unfolding read_from
 one-leads word key ts a is inner held rest =
     let regroup : one_spelled key ts ++ rest ≡ Key key ∷ Marked m.Open ∷ (ts ++ (Marked m.Close ∷ rest)) = simp append_assoc in
-    let turn : read_from held Begin (Key key ∷ Marked m.Open ∷ (ts ++ (Marked m.Close ∷ rest))) ≡ read_from (First (One word) ∷ held) Begin (ts ++ (Marked m.Close ∷ rest)) = rw is refl in
+    let turn : read_from held Begin (Key key ∷ Marked m.Open ∷ (ts ++ (Marked m.Close ∷ rest)))
+    ≡ read_from (First (One word) ∷ held) Begin (ts ++ (Marked m.Close ∷ rest)) = rw is refl in
     ap (read_from held Begin) regroup ∙ turn ∙ inner (First (One word) ∷ held) (Marked m.Close ∷ rest)
 
 both : (a b : Bool) → (a && b) ≡ true → (a ≡ true) × (b ≡ true)
@@ -89,7 +98,8 @@ Part = (e : Expr) × Read e
 abbrev whole_of : Expr-F Part → Expr-F Expr
 whole_of = map-Expr Part Expr (λ p. p.0)
 
-level : (y : Expr-F Part) → fits_step (map-Expr Expr Bool fits (whole_of y)) ≡ true → Leads (spelled_step (map-Expr Expr (List Seen) spelled (whole_of y))) (cut_step (map-Expr Expr Cut cut (whole_of y)))
+level : (y : Expr-F Part) → fits_step (map-Expr Expr Bool fits (whole_of y)) ≡ true →
+    Leads (spelled_step (map-Expr Expr (List Seen) spelled (whole_of y))) (cut_step (map-Expr Expr Cut cut (whole_of y)))
 unfolding read_from
 level (Expr-F.Number n) e = λ held rest. rw e refl
 level Expr-F.True e = λ held rest. refl

@@ -17,14 +17,17 @@ pub word_is_no_channel : (word : List ℕ) (key : Option Keyword) (ts : List See
 word_is_no_channel word (Some k) ts = refl
 word_is_no_channel word None ts = refl
 
-pub word_is_no_profile : (profile : ℕ) (name word : List ℕ) (key : Option Keyword) (ts : List Seen) → profile_in profile name (seen_word word key ∷ ts) ≡ None
+pub word_is_no_profile : (profile : ℕ) (name word : List ℕ) (key : Option Keyword) (ts : List Seen) →
+    profile_in profile name (seen_word word key ∷ ts) ≡ None
 word_is_no_profile profile name word (Some k) ts = refl
 word_is_no_profile profile name word None ts = refl
 
-pub word_is_no_bracket : (held : List Open) (call : Call) (word : List ℕ) (key : Option Keyword) → at_bracket held call (seen_word word key) ≡ None
+pub word_is_no_bracket : (held : List Open) (call : Call) (word : List ℕ) (key : Option Keyword) →
+    at_bracket held call (seen_word word key) ≡ None
 word_is_no_bracket held call word (Some k) = refl
 word_is_no_bracket held call word None = refl
 
-pub word_follows_none : (top : Open) (held : List Open) (a : Cut) (word : List ℕ) (key : Option Keyword) → at_after (top ∷ held) a (seen_word word key) ≡ None
+pub word_follows_none : (top : Open) (held : List Open) (a : Cut) (word : List ℕ) (key : Option Keyword) →
+    at_after (top ∷ held) a (seen_word word key) ≡ None
 word_follows_none top held a word (Some k) = refl
 word_follows_none top held a word None = refl

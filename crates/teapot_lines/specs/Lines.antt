@@ -11,7 +11,8 @@ use Rattle.teapot_lines.specs.declared.form.Form.TheVariants as f
 use Rattle.teapot_lines.specs.declared.form.Reach.{Reach}
 use Rattle.teapot_lines.specs.declared.form.Reach.TheVariants.{One, All}
 use Rattle.teapot_lines.specs.Seen.{Seen, Key, Named, Number}
-use Rattle.teapot_lines.specs.Parts.{Got, opened, closed, brace_opened, brace_closed, comma, semicolon, becomes, named, typed, tagged, channel, param, answers, bracketed, with_front, more_at, listed}
+use Rattle.teapot_lines.specs.Parts.{Got, opened, closed, brace_opened, brace_closed, comma, semicolon, becomes, named, typed}
+use Rattle.teapot_lines.specs.Parts.{tagged, channel, param, answers, bracketed, with_front, more_at, listed}
 use Rattle.teapot_lines.specs.Reading.{read}
 
 abbrev pub Line : Type 0
@@ -49,7 +50,8 @@ unfoldable pub read_protocol : ℕ → List Seen → Line
 read_protocol profile ts = named ts >>? λ n. profile_in profile n.0 n.1
 
 unfoldable pub read_message : List Seen → Line
-read_message ts = named ts >>? λ n. opened n.1 >>? λ t1. listed typed t1 >>? λ ys. closed ys.1 >>? λ t2. channel t2 >>? λ c. carried_in n.0 ys.0 c.0 c.1
+read_message ts = named ts >>? λ n. opened n.1 >>? λ t1. listed typed t1 >>? λ ys. closed ys.1 >>? λ t2. channel t2 >>?
+    λ c. carried_in n.0 ys.0 c.0 c.1
 
 unfoldable pub read_info : List Seen → Line
 read_info ts = named ts >>? λ n. typed n.1 >>? λ y. ended y.1 (f.Info n.0 y.0)
@@ -58,7 +60,8 @@ unfoldable pub read_start : Bool → List Seen → Line
 read_start home ts = named ts >>? λ n. tagged n.1 >>? λ g. ended g.1 (f.Start home n.0 g.0)
 
 unfoldable pub read_state : List Seen → Line
-read_state ts = named ts >>? λ n. brace_opened n.1 >>? λ t1. listed param t1 >>? λ xs. cont xs.1 >>? λ c. ended c.1 (f.State n.0 xs.0 c.0)
+read_state ts = named ts >>? λ n. brace_opened n.1 >>? λ t1. listed param t1 >>? λ xs. cont xs.1 >>? λ c. ended c.1
+    (f.State n.0 xs.0 c.0)
 
 unfoldable pub read_on : List Seen → Line
 read_on ts = answers ts >>? λ w. opened w.1 >>? λ t1. listed named t1 >>? λ xs. closed xs.1 >>? λ t2. ended t2 (f.On w.0 xs.0)
@@ -73,16 +76,20 @@ unfoldable pub read_assign : List ℕ → List Seen → Line
 read_assign name ts = becomes ts >>? λ t1. read t1 >>? λ a. ended a.1 (f.Assign name a.0)
 
 unfoldable pub read_send : Reach → List Seen → Line
-read_send reach ts = opened ts >>? λ t1. read t1 >>? λ a. comma a.1 >>? λ t2. named t2 >>? λ n. with_front [] (more_at read n.1) >>? λ xs. closed xs.1 >>? λ t3. ended t3 (f.Send reach a.0 n.0 xs.0)
+read_send reach ts = opened ts >>? λ t1. read t1 >>? λ a. comma a.1 >>? λ t2. named t2 >>? λ n. with_front []
+    (more_at read n.1) >>? λ xs. closed xs.1 >>? λ t3. ended t3 (f.Send reach a.0 n.0 xs.0)
 
 unfoldable pub read_set_tag : List Seen → Line
 read_set_tag ts = opened ts >>? λ t1. tagged t1 >>? λ g. closed g.1 >>? λ t2. ended t2 (f.SetTag g.0)
 
 unfoldable pub read_set_state : List Seen → Line
-read_set_state ts = opened ts >>? λ t1. named t1 >>? λ n. brace_opened n.1 >>? λ t2. listed read t2 >>? λ xs. brace_closed xs.1 >>? λ t3. closed t3 >>? λ t4. ended t4 (f.SetState n.0 xs.0)
+read_set_state ts = opened ts >>? λ t1. named t1 >>? λ n. brace_opened n.1 >>? λ t2. listed read t2 >>?
+    λ xs. brace_closed xs.1 >>? λ t3. closed t3 >>? λ t4. ended t4 (f.SetState n.0 xs.0)
 
 unfoldable pub read_suspend : List Seen → Line
-read_suspend ts = opened ts >>? λ t1. named t1 >>? λ l. comma l.1 >>? λ t2. named t2 >>? λ n. brace_opened n.1 >>? λ t3. listed read t3 >>? λ xs. semicolon xs.1 >>? λ t4. named t4 >>? λ p. brace_closed p.1 >>? λ t5. closed t5 >>? λ t6. ended t6 (f.Suspend l.0 n.0 xs.0 p.0)
+read_suspend ts = opened ts >>? λ t1. named t1 >>? λ l. comma l.1 >>? λ t2. named t2 >>? λ n. brace_opened n.1 >>?
+    λ t3. listed read t3 >>? λ xs. semicolon xs.1 >>? λ t4. named t4 >>? λ p. brace_closed p.1 >>? λ t5. closed t5 >>?
+    λ t6. ended t6 (f.Suspend l.0 n.0 xs.0 p.0)
 
 unfoldable pub read_resume : List Seen → Line
 read_resume ts = bracketed ts >>? λ n. ended n.1 (f.Resume n.0)

@@ -1,5 +1,6 @@
 -- How each form is spelled, in tokens.
-use Rattle.std.specs.Prelude.{◌≡◌, ℕ, Bool, true, false, ◌&&◌, ◌||◌, ◌==◌, if◌then◌else◌, List, [], ◌∷◌, ◌++◌, map, Option, Some, None}
+use Rattle.std.specs.Prelude.{◌≡◌, ℕ, Bool, true, false, ◌&&◌, ◌||◌, ◌==◌, if◌then◌else◌, List, [], ◌∷◌, ◌++◌, map, Option}
+use Rattle.std.specs.Prelude.{Some, None}
 use Rattle.std.specs.List.{list_all}
 use Rattle.tw_lex.specs.declared.token.Mark.TheVariants as m
 use Rattle.teapot_tree.specs.declared.keyword.Keyword.{Keyword}
@@ -14,7 +15,8 @@ use Rattle.teapot_lines.specs.Seen.{Seen, Key, Named, Number, Marked}
 use Rattle.teapot_tree.specs.Parts.{fits}
 use Rattle.teapot_lines.specs.Exprs.{spelled}
 use Rattle.teapot_lines.specs.Cuts.{cut}
-use Rattle.teapot_lines.specs.Parts.{tails, spelled_list, spelled_type, spelled_param, spelled_name, spelled_answers, word_of, tag_word, chan_number}
+use Rattle.teapot_lines.specs.Parts.{tails, spelled_list, spelled_type, spelled_param, spelled_name, spelled_answers, word_of}
+use Rattle.teapot_lines.specs.Parts.{tag_word, chan_number}
 
 abbrev pub spelled_cont : Option (List ℕ) → List Seen
 spelled_cont None = Marked m.BraceClose ∷ []
@@ -41,7 +43,8 @@ spelled_bracketed n = Marked m.Open ∷ Named n ∷ Marked m.Close ∷ []
 
 abbrev pub spelling : Form Expr → List Seen
 spelling (f.Protocol n p) = Key k.Protocol ∷ Named n ∷ spelled_profile p
-spelling (f.Message n ys c d) = Key k.Message ∷ Named n ∷ Marked m.Open ∷ (spelled_list spelled_type ys ++ (Marked m.Close ∷ Number (chan_number c) ∷ spelled_carries d))
+spelling (f.Message n ys c d) = Key k.Message ∷ Named n ∷ Marked m.Open ∷
+    (spelled_list spelled_type ys ++ (Marked m.Close ∷ Number (chan_number c) ∷ spelled_carries d))
 spelling (f.Info n y) = Key k.Info ∷ Named n ∷ Key (word_of y) ∷ []
 spelling (f.Start h n g) = Key (start_word h) ∷ Named n ∷ Key (tag_word g) ∷ []
 spelling (f.State n ps c) = Key k.State ∷ Named n ∷ Marked m.BraceOpen ∷ (spelled_list spelled_param ps ++ spelled_cont c)
@@ -53,10 +56,13 @@ spelling f.End = Key k.End ∷ []
 spelling (f.If a) = Key k.If ∷ (spelled a ++ [])
 spelling f.Else = Key k.Else ∷ []
 spelling (f.Assign n a) = Named n ∷ Marked m.Becomes ∷ (spelled a ++ [])
-spelling (f.Send r a n xs) = Key (send_word r) ∷ Marked m.Open ∷ (spelled a ++ (Marked m.Comma ∷ Named n ∷ (tails spelled xs ++ (Marked m.Close ∷ []))))
+spelling (f.Send r a n xs) = Key (send_word r) ∷ Marked m.Open ∷
+    (spelled a ++ (Marked m.Comma ∷ Named n ∷ (tails spelled xs ++ (Marked m.Close ∷ []))))
 spelling (f.SetTag g) = Key k.SetTag ∷ Marked m.Open ∷ Key (tag_word g) ∷ Marked m.Close ∷ []
-spelling (f.SetState n xs) = Key k.SetState ∷ Marked m.Open ∷ Named n ∷ Marked m.BraceOpen ∷ (spelled_list spelled xs ++ (Marked m.BraceClose ∷ Marked m.Close ∷ []))
-spelling (f.Suspend l n xs p) = Key k.Suspend ∷ Marked m.Open ∷ Named l ∷ Marked m.Comma ∷ Named n ∷ Marked m.BraceOpen ∷ (spelled_list spelled xs ++ (Marked m.Semicolon ∷ Named p ∷ Marked m.BraceClose ∷ Marked m.Close ∷ []))
+spelling (f.SetState n xs) = Key k.SetState ∷ Marked m.Open ∷ Named n ∷ Marked m.BraceOpen ∷
+    (spelled_list spelled xs ++ (Marked m.BraceClose ∷ Marked m.Close ∷ []))
+spelling (f.Suspend l n xs p) = Key k.Suspend ∷ Marked m.Open ∷ Named l ∷ Marked m.Comma ∷ Named n ∷ Marked m.BraceOpen ∷
+    (spelled_list spelled xs ++ (Marked m.Semicolon ∷ Named p ∷ Marked m.BraceClose ∷ Marked m.Close ∷ []))
 spelling (f.Resume n) = Key k.Resume ∷ spelled_bracketed n
 spelling (f.Error n) = Key k.Error ∷ spelled_bracketed n
 spelling f.Install = Key k.Install ∷ []

@@ -25,5 +25,6 @@ pub fn cuts_keep_depth()
 /// A line is of a form exactly where its tokens spell the form.
 pub fn forms_are_spelled()
     ensures found { (profile : ℕ) (ts : List Seen) → IfSome (form_of profile ts) (IsForm profile ts) }
-    ensures again { (profile : ℕ) (f : Form Expr) → fits_form profile f ≡ true → form_of profile (spelling f) ≡ Some (cut_form f) }
+    ensures again { (profile : ℕ) (f : Form Expr) → fits_form profile f ≡ true →
+        form_of profile (spelling f) ≡ Some (cut_form f) }
 {}

@@ -1,7 +1,10 @@
 ghost use Rattle.std.specs.Prelude.{◌≡◌, map};
 ghost use Rattle.teapot_lines.specs.Seen.{seen};
 ghost use Rattle.teapot_lines.specs.Parts.{Reads};
-ghost use Rattle.teapot_lines.specs.Lines.{ended, profile_in, carried_in, cont, read_protocol, read_message, read_info, read_start, read_state, read_on, read_local, read_if, read_assign, read_send, read_set_tag, read_set_state, read_suspend, read_resume, read_error, read_for_each, form_by, form_of};
+ghost use Rattle.teapot_lines.specs.Lines.{ended, profile_in, carried_in, cont, read_protocol, read_message, read_info};
+ghost use Rattle.teapot_lines.specs.Lines.{read_start, read_state, read_on, read_local, read_if, read_assign, read_send};
+ghost use Rattle.teapot_lines.specs.Lines.{read_set_tag, read_set_state, read_suspend, read_resume, read_error, read_for_each};
+ghost use Rattle.teapot_lines.specs.Lines.{form_by, form_of};
 
 use crate::cut::Cut;
 use crate::form::{Form, Reach, Typed};

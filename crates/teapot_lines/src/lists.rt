@@ -58,7 +58,8 @@ pub fn more_items<I: Item>(
     front: Listed<I>,
     tokens: &[Token],
 ) -> Result<(Listed<I>, &[Token]), ReadError>
-    ensures { Reads (λ x. (x.0, map (seen profile) x.1.now)) result (with_front front (more_at I.due (map (seen profile) tokens.now))) }
+    ensures { Reads (λ x. (x.0, map (seen profile) x.1.now)) result
+        (with_front front (more_at I.due (map (seen profile) tokens.now))) }
 {
     let mut found = front;
     let mut rest = tokens;

@@ -3,7 +3,8 @@ ghost use Rattle.std.specs.Option.{option_map};
 ghost use Rattle.teapot_lines.specs.Seen.{seen};
 ghost use Rattle.teapot_lines.specs.declared.parts.ReadError.TheVariants.{Memory as OutOfMemory};
 ghost use Rattle.teapot_lines.specs.Reading.{read};
-ghost use Rattle.teapot_lines.specs.Parts.{Reads, same_mark, past, ends, named, type_of, typed, tag_of, tagged, chan_of, channel, param, answers, bracketed};
+ghost use Rattle.teapot_lines.specs.Parts.{Reads, same_mark, past, ends, named, type_of, typed, tag_of, tagged, chan_of};
+ghost use Rattle.teapot_lines.specs.Parts.{channel, param, answers, bracketed};
 
 use crate::cut::Cut;
 use crate::form::{Answers, Typed};

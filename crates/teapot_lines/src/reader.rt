@@ -214,7 +214,8 @@ pub fn read_expr(
     profile: u8,
     tokens: &[Token],
 ) -> Result<Option<(Cut, &[Token])>, Memory>
-    ensures { IfOk result (λ found. option_map (λ x. (x.0, map (seen profile) x.1.now)) found ≡ read (map (seen profile) tokens.now)) }
+    ensures { IfOk result (λ found. option_map (λ x. (x.0, map (seen profile) x.1.now)) found
+        ≡ read (map (seen profile) tokens.now)) }
 {
     let mut held = Stack::new(alloc);
     let mut next = Next::Expr;

@@ -47,11 +47,15 @@ bare-roll l = fold-roll-Do Do Stmt roll-Do (λ x. record { what = x.what; line =
 
 parts : (ps : List StmtPart) → joined (map errors_of (map bare (map (λ p. p.0) ps))) ≡ joined (map errors_of (map (λ p. p.0) ps))
 parts [] = refl
-parts (p ∷ ps) = ap (λ ns. ns ++ joined (map errors_of (map bare (map (λ q. q.0) ps)))) p.1 ∙ ap (λ ns. errors_of p.0 ++ ns) (parts ps)
+parts (p ∷ ps) = ap (λ ns. ns ++ joined (map errors_of (map bare (map (λ q. q.0) ps)))) p.1
+    ∙ ap (λ ns. errors_of p.0 ++ ns) (parts ps)
 
-by_layer : (y : Do-F DoPart StmtPart) → errors_step (map-Do Do Stmt (List Name) (List Name) of_do errors_of (map-Do Do Stmt Do Stmt bare_do bare (whole_of y))) ≡ errors_step (map-Do Do Stmt (List Name) (List Name) of_do errors_of (whole_of y))
+by_layer : (y : Do-F DoPart StmtPart) →
+    errors_step (map-Do Do Stmt (List Name) (List Name) of_do errors_of (map-Do Do Stmt Do Stmt bare_do bare (whole_of y)))
+    ≡ errors_step (map-Do Do Stmt (List Name) (List Name) of_do errors_of (whole_of y))
 by_layer (Do-F.If e xs None) = ap (λ ns. ns ++ []) (parts xs)
-by_layer (Do-F.If e xs (Some ys)) = ap (λ ns. ns ++ joined (map errors_of (map bare (map (λ p. p.0) ys)))) (parts xs) ∙ ap (λ ns. joined (map errors_of (map (λ p. p.0) xs)) ++ ns) (parts ys)
+by_layer (Do-F.If e xs (Some ys)) = ap (λ ns. ns ++ joined (map errors_of (map bare (map (λ p. p.0) ys)))) (parts xs)
+    ∙ ap (λ ns. joined (map errors_of (map (λ p. p.0) xs)) ++ ns) (parts ys)
 by_layer (Do-F.ForEach n e xs) = parts xs
 by_layer (Do-F.Each n s xs) = parts xs
 by_layer (Do-F.Assign n e) = refl
@@ -67,7 +71,8 @@ by_layer Do-F.WakeUp = refl
 by_layer (Do-F.Error n) = refl
 
 do_level : (y : Do-F DoPart StmtPart) → SameDo (roll-Do (whole_of y))
-do_level y = ap of_do (bare-roll (whole_of y)) ∙ (do-roll (map-Do Do Stmt Do Stmt bare_do bare (whole_of y)) ∙ (by_layer y ∙ sym (do-roll (whole_of y))))
+do_level y = ap of_do (bare-roll (whole_of y)) ∙ (do-roll (map-Do Do Stmt Do Stmt bare_do bare (whole_of y))
+    ∙ (by_layer y ∙ sym (do-roll (whole_of y))))
 
 stmt_level : (y : Stmt-F DoPart StmtPart) → SameStmt (roll-Stmt (map-Stmt DoPart StmtPart Do Stmt (λ p. p.0) (λ p. p.0) y))
 stmt_level y =
@@ -75,15 +80,19 @@ stmt_level y =
     ap errors_of (bare-out s) ∙ (errors-out (record { what = bare_do s.what; line = 0 }) ∙ (y.what.1 ∙ sym (errors-out s)))
 
 pub errors-bare : (s : Stmt) → errors_of (bare s) ≡ errors_of s
-errors-bare = ind-Stmt SameDo SameStmt (λ x y is. subst (λ z. SameDo (roll-Do z)) is (do_level y)) (λ x y is. subst (λ z. SameStmt (roll-Stmt z)) is (stmt_level y))
+errors-bare = ind-Stmt SameDo SameStmt (λ x y is. subst (λ z. SameDo (roll-Do z)) is (do_level y))
+    (λ x y is. subst (λ z. SameStmt (roll-Stmt z)) is (stmt_level y))
 
-flat_bare : {X Y : Type 0} (f : X → Y) (g : Y → List Name) (h : X → List Name) → ((x : X) → g (f x) ≡ h x) → (xs : List X) → flat_map g (map f xs) ≡ flat_map h xs
+flat_bare : {X Y : Type 0} (f : X → Y) (g : Y → List Name) (h : X → List Name) → ((x : X) → g (f x) ≡ h x) → (xs : List X) →
+    flat_map g (map f xs) ≡ flat_map h xs
 flat_bare f g h e [] = refl
 flat_bare f g h e (x ∷ xs) = ap (λ ns. ns ++ flat_map g (map f xs)) (e x) ∙ ap (λ ns. h x ++ ns) (flat_bare f g h e xs)
 
 pub error_names-bare : (p : Protocol) → error_names (bare_protocol p) ≡ error_names p
 unfolding error_names
 error_names-bare p =
-    let body : (h : Handler) → errors_in (bare_handler h).body ≡ errors_in h.body = λ h. flat_bare bare errors_of errors_of errors-bare h.body in
-    let state : (s : State) → state_errors (bare_state s) ≡ state_errors s = λ s. flat_bare bare_handler (λ h. errors_in h.body) (λ h. errors_in h.body) body s.handlers in
+    let body : (h : Handler) → errors_in (bare_handler h).body ≡ errors_in h.body =
+    λ h. flat_bare bare errors_of errors_of errors-bare h.body in
+    let state : (s : State) → state_errors (bare_state s) ≡ state_errors s =
+    λ s. flat_bare bare_handler (λ h. errors_in h.body) (λ h. errors_in h.body) body s.handlers in
     ap (fold noted []) (flat_bare bare_state state_errors state_errors state p.states)

@@ -12,7 +12,8 @@ use Rattle.teapot_meaning.specs.Goes.{Goes, ends, goes_on, HasOneEnd}
 use Rattle.teapot_meaning.proofs.Weights.{next_falls}
 
 -- where one next is named twice
-carried : (p : Protocol) (a b : List Stmt) (q r : Running) (n : Next) (e : Ended) → n ≡ On a q → n ≡ On b r → Goes p b r e → Goes p a q e
+carried : (p : Protocol) (a b : List Stmt) (q r : Running) (n : Next) (e : Ended) → n ≡ On a q → n ≡ On b r → Goes p b r e →
+    Goes p a q e
 carried p a b q r n e h k g =
     let same_list : b ≡ a = cc in
     let same_run : r ≡ q = cc in
@@ -30,7 +31,8 @@ reached p zero stmts r lt = absurd (omega arith)
 reached p (suc n) stmts r lt =
     by_next (next_of p stmts r) refl (λ rest after h. reached p n rest after (omega (arith, next_falls p stmts rest r after h)))
   where
-    by_next : (next : Next) → next_of p stmts r ≡ next → ((rest : List Stmt) (after : Running) → next_of p stmts r ≡ On rest after → (e : Ended) × Goes p rest after e) → (e : Ended) × Goes p stmts r e
+    by_next : (next : Next) → next_of p stmts r ≡ next → ((rest : List Stmt) (after : Running) →
+        next_of p stmts r ≡ On rest after → (e : Ended) × Goes p rest after e) → (e : Ended) × Goes p stmts r e
     by_next (On rest after) h go = let a = go rest after h in (a.0, goes_on h a.1)
     by_next (Over e) h go = (e, ends h)
 

@@ -1,5 +1,6 @@
 -- What is found in a list.
-use Rattle.std.proofs.Common.{◌≡◌, ℕ, zero, suc, ◌+◌, ◌<◌, Bool, true, false, not, List, [], ◌∷◌, ◌++◌, Some, None, length, get_or, refl, ap, sym, subst, arith, inl, inr}
+use Rattle.std.proofs.Common.{◌≡◌, ℕ, zero, suc, ◌+◌, ◌<◌, Bool, true, false, not, List, [], ◌∷◌, ◌++◌, Some, None, length}
+use Rattle.std.proofs.Common.{get_or, refl, ap, sym, subst, arith, inl, inr}
 use Rattle.std.specs.Prelude.{cond, find, position, slice_get, nat_lt, ◌&&◌, Contains}
 use Rattle.std.specs.List.{flat_map, prefix_len}
 use Rattle.std.proofs.lemmas.Bool.Decides.{Decides-ltb}
@@ -38,15 +39,19 @@ not_false false e = refl
 one_more : (k : ℕ) → 1 + k ≡ suc k
 one_more k = omega arith
 
-at_found : {X : Type 0} (t : X → Bool) (xs : List X) (x : X) → find t xs ≡ Some x → slice_get xs (prefix_len (λ y. not (t y)) xs) ≡ Some x
+at_found : {X : Type 0} (t : X → Bool) (xs : List X) (x : X) → find t xs ≡ Some x →
+    slice_get xs (prefix_len (λ y. not (t y)) xs) ≡ Some x
 at_found t [] x e = cc
 at_found t (y ∷ ys) x e = by_test (t y) e (at_found t ys x)
   where
-    by_test : (b : Bool) → cond b (Some y) (find t ys) ≡ Some x → (find t ys ≡ Some x → slice_get ys (prefix_len (λ z. not (t z)) ys) ≡ Some x) → slice_get (y ∷ ys) (cond (not b) (1 + prefix_len (λ z. not (t z)) ys) 0) ≡ Some x
+    by_test : (b : Bool) → cond b (Some y) (find t ys) ≡ Some x →
+        (find t ys ≡ Some x → slice_get ys (prefix_len (λ z. not (t z)) ys) ≡ Some x) →
+        slice_get (y ∷ ys) (cond (not b) (1 + prefix_len (λ z. not (t z)) ys) 0) ≡ Some x
     by_test true e f = e
     by_test false e f = rw (one_more (prefix_len (λ z. not (t z)) ys)) (f e)
 
-pub place_found : {X : Type 0} (t : X → Bool) (xs : List X) (x : X) → find t xs ≡ Some x → (k : ℕ) × (position t xs ≡ Some k) × (slice_get xs k ≡ Some x)
+pub place_found : {X : Type 0} (t : X → Bool) (xs : List X) (x : X) → find t xs ≡ Some x →
+    (k : ℕ) × (position t xs ≡ Some k) × (slice_get xs k ≡ Some x)
 place_found t xs x e =
     let k = prefix_len (λ y. not (t y)) xs in
     let at = at_found t xs x e in
@@ -57,7 +62,9 @@ all_past : {X : Type 0} (t : X → Bool) (xs : List X) → find t xs ≡ None �
 all_past t [] e = refl
 all_past t (y ∷ ys) e = by_test (t y) e (all_past t ys)
   where
-    by_test : (b : Bool) → cond b (Some y) (find t ys) ≡ None → (find t ys ≡ None → prefix_len (λ z. not (t z)) ys ≡ length ys) → cond (not b) (1 + prefix_len (λ z. not (t z)) ys) 0 ≡ suc (length ys)
+    by_test : (b : Bool) → cond b (Some y) (find t ys) ≡ None →
+        (find t ys ≡ None → prefix_len (λ z. not (t z)) ys ≡ length ys) →
+        cond (not b) (1 + prefix_len (λ z. not (t z)) ys) 0 ≡ suc (length ys)
     by_test true e f = cc
     by_test false e f = omega (arith, f e)
 
@@ -65,7 +72,8 @@ pub no_place : {X : Type 0} (t : X → Bool) (xs : List X) → find t xs ≡ Non
 no_place t xs e =
     let k = prefix_len (λ y. not (t y)) xs in
     let all = all_past t xs e in
-    let past : nat_lt k (length xs) ≡ false = is_false _ (λ h. let lt = (Decides-ltb k (length xs)).0 h in absurd (omega (arith, lt, all))) in
+    let past : nat_lt k (length xs) ≡ false =
+    is_false _ (λ h. let lt = (Decides-ltb k (length xs)).0 h in absurd (omega (arith, lt, all))) in
     ap (λ b. cond b (Some k) None) past
 
 pub find_holds : {X : Type 0} (t : X → Bool) (xs : List X) (x : X) → find t xs ≡ Some x → t x ≡ true
@@ -112,7 +120,8 @@ pub each_both : {X : Type 0} (P : X → Type 0) (xs ys : List X) → Each P xs �
 each_both P [] ys h k = k
 each_both P (x ∷ xs) ys h k = (h.0, each_both P xs ys h.1 k)
 
-pub each_flat : {X Y : Type 0} (P : Y → Type 0) (f : X → List Y) (xs : List X) (x : X) → Contains xs x → Each P (flat_map f xs) → Each P (f x)
+pub each_flat : {X Y : Type 0} (P : Y → Type 0) (f : X → List Y) (xs : List X) (x : X) → Contains xs x →
+    Each P (flat_map f xs) → Each P (f x)
 each_flat {X = X} {Y = Y} P f xs x c h = by_place xs c.0 c.1 c.2 h
   where
     by_place : (ys : List X) (k : ℕ) → k < length ys → get_or ys k x ≡ x → Each P (flat_map f ys) → Each P (f x)

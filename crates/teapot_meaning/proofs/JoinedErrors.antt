@@ -24,7 +24,9 @@ layer_errors _ = []
 abbrev of_do : Do → List Name
 of_do = fold-Do (List Name) (List Name) errors_step (λ s. s.what)
 
-by_layer : (l : Layer) → errors_step (map-Do Do Stmt (List Name) (List Name) of_do (fold-Stmt (List Name) (List Name) errors_step (λ s. s.what)) l) ≡ layer_errors l
+by_layer : (l : Layer) →
+    errors_step (map-Do Do Stmt (List Name) (List Name) of_do (fold-Stmt (List Name) (List Name) errors_step (λ s. s.what)) l)
+    ≡ layer_errors l
 unfolding errors_of
 by_layer (Do-F.If e first None) = append-nil _ ∙ joined_map errors_of first
 by_layer (Do-F.If e first (Some second)) = rw (joined_map errors_of first, joined_map errors_of second)
@@ -35,4 +37,5 @@ by_layer _ = refl
 
 pub errors-is : (s : Stmt) → errors_of s ≡ layer_errors (what_of s)
 unfolding errors_of
-errors-is s = fold_out-Stmt (List Name) (List Name) errors_step (λ x. x.what) s ∙ (fold_out-Do (List Name) (List Name) errors_step (λ x. x.what) s.what ∙ by_layer (out-Do s.what))
+errors-is s = fold_out-Stmt (List Name) (List Name) errors_step (λ x. x.what) s
+    ∙ (fold_out-Do (List Name) (List Name) errors_step (λ x. x.what) s.what ∙ by_layer (out-Do s.what))

@@ -20,12 +20,15 @@ chosen : (o : Option Handler) → (o ≡ None → ⊥) → (h : Handler) × (o �
 chosen (Some h) never = (h, refl)
 chosen None never = absurd (never refl)
 
-same_meaning : (p : Protocol) (here : Here) (m : Message) (s : State) (h : Handler) (e f : Ended) → state_of p here ≡ Some s → handler_in p m.kind s ≡ Some h → Goes p h.body (started s h here m) e → Does p here m f → f ≡ e
+same_meaning : (p : Protocol) (here : Here) (m : Message) (s : State) (h : Handler) (e f : Ended) → state_of p here ≡ Some s →
+    handler_in p m.kind s ≡ Some h → Goes p h.body (started s h here m) e → Does p here m f → f ≡ e
 same_meaning p here m s h e f is_state is_handler goes d =
     let same_state : d.state ≡ s = cc (is_state, d.is_state) in
-    let other : handler_in p m.kind s ≡ Some d.handler = subst (λ x. handler_in p m.kind x ≡ Some d.handler) same_state d.is_handler in
+    let other : handler_in p m.kind s ≡ Some d.handler = subst
+    (λ x. handler_in p m.kind x ≡ Some d.handler) same_state d.is_handler in
     let same_handler : d.handler ≡ h = cc (is_handler, other) in
-    let g : Goes p d.handler.body (started s d.handler here m) f = subst (λ x. Goes p d.handler.body (started x d.handler here m) f) same_state d.goes in
+    let g : Goes p d.handler.body (started s d.handler here m) f =
+    subst (λ x. Goes p d.handler.body (started x d.handler here m) f) same_state d.goes in
     same_end p goes (subst (λ x. Goes p x.body (started s x here m) f) same_handler g)
 
 pub one_meaning : (p : Protocol) (here : Here) (m : Message) → IsAccepted p → Fits p here → HasOneMeaning p here m

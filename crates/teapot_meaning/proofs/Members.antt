@@ -1,5 +1,6 @@
 -- The members of a set, one node after another.
-use Rattle.std.proofs.Common.{◌≡◌, ℕ, zero, suc, ◌+◌, ◌≤◌, Bool, true, false, List, [], ◌∷◌, ◌++◌, length, set, take, Some, refl, ap, ◌∙◌, arith, add-one, append-nil, length-append, ◌<◌}
+use Rattle.std.proofs.Common.{◌≡◌, ℕ, zero, suc, ◌+◌, ◌≤◌, Bool, true, false, List, [], ◌∷◌, ◌++◌, length, set, take, Some}
+use Rattle.std.proofs.Common.{refl, ap, ◌∙◌, arith, add-one, append-nil, length-append, ◌<◌}
 use Rattle.std.specs.Prelude.{if◌then◌else◌, slice_get}
 use Rattle.std.proofs.Math.Seq.{take-set-lt}
 use Rattle.std.proofs.lemmas.List.{length-take}
@@ -7,7 +8,8 @@ use Rattle.tw_base.specs.NodeSets.{has, members, members_from, without}
 use Rattle.teapot_meaning.specs.Depth.{nodes_in}
 
 -- one node more
-members_next : (j k : ℕ) (s : List Bool) → members_from j (take (suc k) s) ≡ members_from j (take k s) ++ (if has s k then (j + k) ∷ [] else [])
+members_next : (j k : ℕ) (s : List Bool) → members_from j (take (suc k) s) ≡ members_from j (take k s)
+    ++ (if has s k then (j + k) ∷ [] else [])
 unfolding has
 members_next j zero [] = refl
 members_next j (suc k) [] = refl
@@ -18,13 +20,16 @@ members_next j (suc k) (true ∷ s) = let e : suc j + k ≡ j + suc k = omega ar
 members_next j (suc k) (false ∷ s) = let e : suc j + k ≡ j + suc k = omega arith in
     members_next (suc j) k s ∙ ap (λ n. members_from (suc j) (take k s) ++ (if has s k then n ∷ [] else [])) e
 
-pub members_more : (k : ℕ) (s : List Bool) → members_from 0 (take (k + 1) s) ≡ members_from 0 (take k s) ++ (if has s k then k ∷ [] else [])
+pub members_more : (k : ℕ) (s : List Bool) → members_from 0 (take (k + 1) s) ≡ members_from 0 (take k s)
+    ++ (if has s k then k ∷ [] else [])
 members_more k s =
     let e : 0 + k ≡ k = omega arith in
-    ap (λ n. members_from 0 (take n s)) (add-one k) ∙ members_next 0 k s ∙ ap (λ n. members_from 0 (take k s) ++ (if has s k then n ∷ [] else [])) e
+    ap (λ n. members_from 0 (take n s)) (add-one k) ∙ members_next 0 k s
+    ∙ ap (λ n. members_from 0 (take k s) ++ (if has s k then n ∷ [] else [])) e
 
 -- a member below which there is none
-least_from : (j k n : ℕ) (s : List Bool) → members_from j (take k s) ≡ [] → has s k ≡ true → k < n → slice_get (members_from j (take n s)) 0 ≡ Some (j + k)
+least_from : (j k n : ℕ) (s : List Bool) → members_from j (take k s) ≡ [] → has s k ≡ true → k < n →
+    slice_get (members_from j (take n s)) 0 ≡ Some (j + k)
 unfolding has
 least_from j k zero s none here low = absurd (omega arith)
 least_from j k (suc n) [] none here low = absurd (cc)
@@ -34,7 +39,8 @@ least_from j (suc k) (suc n) (true ∷ s) none here low = absurd (cc)
 least_from j (suc k) (suc n) (false ∷ s) none here low = let e : suc j + k ≡ j + suc k = omega arith in
     least_from (suc j) k n s none here (omega arith) ∙ ap Some e
 
-pub least_at : (k n : ℕ) (s : List Bool) → members_from 0 (take k s) ≡ [] → has s k ≡ true → k < n → slice_get (members_from 0 (take n s)) 0 ≡ Some k
+pub least_at : (k n : ℕ) (s : List Bool) → members_from 0 (take k s) ≡ [] → has s k ≡ true → k < n →
+    slice_get (members_from 0 (take n s)) 0 ≡ Some k
 least_at k n s none here low = let e : 0 + k ≡ k = omega arith in least_from 0 k n s none here low ∙ ap Some e
 
 -- ---- whether a node is a member
@@ -43,7 +49,8 @@ pub members_in : (k : ℕ) (s : List Bool) → has s k ≡ true → members_from
 members_in k s here = members_more k s ∙ ap (λ b. members_from 0 (take k s) ++ (if b then k ∷ [] else [])) here
 
 pub members_out : (k : ℕ) (s : List Bool) → has s k ≡ false → members_from 0 (take (k + 1) s) ≡ members_from 0 (take k s)
-members_out k s none = members_more k s ∙ ap (λ b. members_from 0 (take k s) ++ (if b then k ∷ [] else [])) none ∙ append-nil (members_from 0 (take k s))
+members_out k s none = members_more k s ∙ ap (λ b. members_from 0 (take k s) ++ (if b then k ∷ [] else [])) none
+    ∙ append-nil (members_from 0 (take k s))
 
 fewer_from : (j k n : ℕ) (s : List Bool) → k ≤ n → length (members_from j (take k s)) ≤ length (members_from j (take n s))
 fewer_from j zero n s low = omega arith
@@ -53,9 +60,15 @@ fewer_from j (suc k) (suc n) (true ∷ s) low = omega (arith, fewer_from (suc j)
 fewer_from j (suc k) (suc n) (false ∷ s) low = fewer_from (suc j) k n s (omega (arith, low))
 
 -- a member is one of those of the whole set
-pub members_room : (k n : ℕ) (s : List Bool) → has s k ≡ true → k < n → length (members_from 0 (take k s)) < length (members_from 0 (take n s))
+pub members_room : (k n : ℕ) (s : List Bool) → has s k ≡ true → k < n →
+    length (members_from 0 (take k s)) < length (members_from 0 (take n s))
 members_room k n s here low =
-    omega (arith, fewer_from 0 (k + 1) n s (omega (arith, low)), ap length (members_in k s here), length-append (members_from 0 (take k s)) (k ∷ []))
+    omega (
+      arith,
+      fewer_from 0 (k + 1) n s (omega (arith, low)),
+      ap length (members_in k s here),
+      length-append (members_from 0 (take k s)) (k ∷ []),
+    )
 
 -- without its least member
 rest_from : (k n : ℕ) (ns : List ℕ) (s : List Bool) → members_from k s ≡ n ∷ ns
@@ -94,7 +107,8 @@ by_first (x ∷ xs) n e = let h : x ≡ n = cc in (xs, ap (λ y. y ∷ xs) h)
 pub nodes_few : (s : List Bool) → length (nodes_in s) ≤ 8
 nodes_few s = omega (arith, members_few (take 8 s), length-take 8 s)
 
-pub nodes_rest : (s : List Bool) (n : ℕ) → slice_get (nodes_in s) 0 ≡ Some n → length (nodes_in (without s n)) + 1 ≡ length (nodes_in s)
+pub nodes_rest : (s : List Bool) (n : ℕ) → slice_get (nodes_in s) 0 ≡ Some n →
+    length (nodes_in (without s n)) + 1 ≡ length (nodes_in s)
 unfolding without
 nodes_rest s n e =
     let f = by_first (nodes_in s) n e in

@@ -1,5 +1,6 @@
 -- What an accepted protocol has.
-use Rattle.std.proofs.Common.{◌≡◌, ℕ, zero, suc, ◌<◌, Bool, true, false, not, List, [], ◌∷◌, length, get_or, refl, inl, inr, arith}
+use Rattle.std.proofs.Common.{◌≡◌, ℕ, zero, suc, ◌<◌, Bool, true, false, not, List, [], ◌∷◌, length, get_or, refl, inl, inr}
+use Rattle.std.proofs.Common.{arith}
 use Rattle.std.specs.Prelude.{◌&&◌, All, Some, find, if◌then◌else◌, is_some}
 use Rattle.std.specs.List.{list_all}
 use Rattle.teapot_tree.specs.declared.protocol.Handler.{Handler}
@@ -14,7 +15,9 @@ found : (d : Handler → Bool) (hs : List Handler) → not (list_all (λ h. not 
 found d [] e = e
 found d (h ∷ hs) e = by_test (d h) e (found d hs)
   where
-    by_test : (b : Bool) → not (not b && list_all (λ x. not (d x)) hs) ≡ true → (not (list_all (λ x. not (d x)) hs) ≡ true → is_some (find d hs) ≡ true) → is_some (if b then Some h else find d hs) ≡ true
+    by_test : (b : Bool) → not (not b && list_all (λ x. not (d x)) hs) ≡ true →
+        (not (list_all (λ x. not (d x)) hs) ≡ true → is_some (find d hs) ≡ true) →
+        is_some (if b then Some h else find d hs) ≡ true
     by_test true e f = refl
     by_test false e f = f e
 
@@ -22,7 +25,8 @@ by_rule : (s : State) (b : Bool) → has_default s ≡ b → (has_default s ≡ 
 by_rule s true e free = found (λ h. is_default h.on) s.handlers e
 by_rule s false e free = absurd (free e)
 
-each_has : (ss : List State) → ((line : ℕ) → Any (λ (s : State). (s.line ≡ line) × (has_default s ≡ false)) ss → ⊥) → (k : ℕ) (d : State) → k < length ss → HasDefault (get_or ss k d)
+each_has : (ss : List State) → ((line : ℕ) → Any (λ (s : State). (s.line ≡ line) × (has_default s ≡ false)) ss → ⊥) →
+    (k : ℕ) (d : State) → k < length ss → HasDefault (get_or ss k d)
 each_has [] free k d lt = absurd (omega arith)
 each_has (s ∷ ss) free zero d lt = by_rule s (has_default s) refl (λ e. free s.line (inl (refl, e)))
 each_has (s ∷ ss) free (suc k) d lt = each_has ss (λ line a. free line (inr a)) k d (omega arith)

@@ -1,5 +1,6 @@
 -- The statements of an accepted protocol keep the rules.
-use Rattle.std.proofs.Common.{◌≡◌, ◌∙◌, ℕ, Bool, true, false, not, List, [], ◌∷◌, ◌++◌, Some, None, map, refl, ap, sym, subst, arith, inl, inr}
+use Rattle.std.proofs.Common.{◌≡◌, ◌∙◌, ℕ, Bool, true, false, not, List, [], ◌∷◌, ◌++◌, Some, None, map, refl, ap, sym, subst}
+use Rattle.std.proofs.Common.{arith, inl, inr}
 use Rattle.std.specs.Prelude.{◌&&◌, ◌⊎◌, unwrap_or, Contains}
 use Rattle.std.specs.List.{list_all}
 use Rattle.std.proofs.lemmas.List.Folds.{list_all-append, list_all-map}
@@ -11,14 +12,19 @@ use Rattle.teapot_tree.specs.declared.rule.Rule.TheVariants.{Undeclared, WrongTy
 use Rattle.teapot_tree.specs.declared.stmt.Do.{Do, out-Do, out-roll-Do, fold-Do, fold_out-Do, map-Do}
 use Rattle.teapot_tree.specs.declared.stmt.Do.TheOpen.{Do-F}
 use Rattle.teapot_tree.specs.declared.stmt.Stmt.{Stmt, fold-Stmt, fold_out-Stmt}
-use Rattle.teapot_tree.specs.Bodies.{Simple, assign, send, send_all, set_tag, set_state, suspend, resume, install, enqueue, wake_up, error, Body, done, plain, branch, branches, loop, each, body_of, do_of, stmt, tree_of}
+use Rattle.teapot_tree.specs.Bodies.{Simple, assign, send, send_all, set_tag, set_state, suspend, resume, install, enqueue}
+use Rattle.teapot_tree.specs.Bodies.{wake_up, error, Body, done, plain, branch, branches, loop, each, body_of, do_of, stmt}
+use Rattle.teapot_tree.specs.Bodies.{tree_of}
 use Rattle.teapot_tree.specs.Parts.{eaches}
 use Rattle.teapot_tree.specs.Paths.{Deed, does, tests, repeats, Step, steps_in}
-use Rattle.teapot_tree.specs.Rules.{Any, AtHandler, AtStep, answers_undeclared, counts_wrongly, IsAccepted, is_declared, uses_undeclared, is_typed, has_wrong_type, is_counted, has_wrong_count, drops_cont, lacks_data}
+use Rattle.teapot_tree.specs.Rules.{Any, AtHandler, AtStep, answers_undeclared, counts_wrongly, IsAccepted, is_declared}
+use Rattle.teapot_tree.specs.Rules.{uses_undeclared, is_typed, has_wrong_type, is_counted, has_wrong_count, drops_cont}
+use Rattle.teapot_tree.specs.Rules.{lacks_data}
 use Rattle.teapot_tree.specs.Scopes.{Scope, is_of, locals_in, type_among}
 use Rattle.teapot_tree.proofs.Iso.{tree-body}
 use Rattle.teapot_meaning.specs.Layers.{Layer, what_of}
-use Rattle.teapot_meaning.proofs.Found.{any_at, both, each_at, each_flat, first_of_both, is_false, not_false, not_true, second_of_both}
+use Rattle.teapot_meaning.proofs.Found.{any_at, both, each_at, each_flat, first_of_both, is_false, not_false, not_true}
+use Rattle.teapot_meaning.proofs.Found.{second_of_both}
 
 -- what a statement keeps by itself
 abbrev pub keeps : Scope → Deed → Bool
@@ -87,7 +93,8 @@ layer_sound c (Do-F.Error n) = keeps c (does (error n))
 layer_sound c (Do-F.ForEach n e xs) = keeps c (repeats n e) && are_sound c xs
 layer_sound c (Do-F.Each n s xs) = is_of Node (type_among (locals_in c) n) && are_sound c xs
 
-by_layer : (c : Scope) (l : Layer) → sound_step c (map-Do Do Stmt Bool Bool (fold-Do Bool Bool (sound_step c) (λ s. s.what)) (is_sound c) l) ≡ layer_sound c l
+by_layer : (c : Scope) (l : Layer) →
+    sound_step c (map-Do Do Stmt Bool Bool (fold-Do Bool Bool (sound_step c) (λ s. s.what)) (is_sound c) l) ≡ layer_sound c l
 unfolding is_sound
 by_layer c (Do-F.If e xs None) = ap (λ b. keeps c (tests e) && (b && true)) (list_all-map (λ b. b) (is_sound c) xs)
 by_layer c (Do-F.If e xs (Some ys)) =
@@ -109,7 +116,8 @@ by_layer c (Do-F.Error n) = refl
 
 pub sound-is : (c : Scope) (s : Stmt) → is_sound c s ≡ layer_sound c (what_of s)
 unfolding is_sound
-sound-is c s = fold_out-Stmt Bool Bool (sound_step c) (λ x. x.what) s ∙ (fold_out-Do Bool Bool (sound_step c) (λ x. x.what) s.what ∙ by_layer c (out-Do s.what))
+sound-is c s = fold_out-Stmt Bool Bool (sound_step c) (λ x. x.what) s
+    ∙ (fold_out-Do Bool Bool (sound_step c) (λ x. x.what) s.what ∙ by_layer c (out-Do s.what))
 
 -- a statement, by what it does
 pub sound_at : (c : Scope) (s : Stmt) (l : Layer) → what_of s ≡ l → is_sound c s ≡ layer_sound c l
@@ -147,17 +155,24 @@ split c xs ys e =
 sound_tree : (c : Scope) (b : Body) → eaches b ≡ 0 → all_keep c (steps_in b) ≡ true → are_sound c (tree_of b) ≡ true
 sound_tree c done n e = refl
 sound_tree c (plain line a b) n e =
-    both _ _ (stmt_sound c line (do_of a) (layer_simple c a ∙ first_of_both (keeps c (does a)) _ e)) (sound_tree c b n (second_of_both (keeps c (does a)) _ e))
+    both _ _ (stmt_sound c line (do_of a) (layer_simple c a ∙ first_of_both (keeps c (does a)) _ e))
+    (sound_tree c b n (second_of_both (keeps c (does a)) _ e))
 sound_tree c (branch line t x b) n e =
     let parts = split c (steps_in x) (steps_in b) (second_of_both (keeps c (tests t)) _ e) in
-    both _ _ (stmt_sound c line (Do-F.If t (tree_of x) None) (both _ _ (first_of_both (keeps c (tests t)) _ e) (both _ _ (sound_tree c x (omega arith) parts.0) refl))) (sound_tree c b (omega arith) parts.1)
+    both _ _ (stmt_sound c line (Do-F.If t (tree_of x) None)
+    (both _ _ (first_of_both (keeps c (tests t)) _ e) (both _ _ (sound_tree c x (omega arith) parts.0) refl)))
+    (sound_tree c b (omega arith) parts.1)
 sound_tree c (branches line t x y b) n e =
     let parts = split c (steps_in x) (steps_in y ++ steps_in b) (second_of_both (keeps c (tests t)) _ e) in
     let more = split c (steps_in y) (steps_in b) parts.1 in
-    both _ _ (stmt_sound c line (Do-F.If t (tree_of x) (Some (tree_of y))) (both _ _ (first_of_both (keeps c (tests t)) _ e) (both _ _ (sound_tree c x (omega arith) parts.0) (sound_tree c y (omega arith) more.0)))) (sound_tree c b (omega arith) more.1)
+    both _ _ (stmt_sound c line (Do-F.If t (tree_of x) (Some (tree_of y)))
+    (both _ _ (first_of_both (keeps c (tests t)) _ e) (both _ _ (sound_tree c x (omega arith) parts.0)
+    (sound_tree c y (omega arith) more.0)))) (sound_tree c b (omega arith) more.1)
 sound_tree c (loop line v t x b) n e =
     let parts = split c (steps_in x) (steps_in b) (second_of_both (keeps c (repeats v t)) _ e) in
-    both _ _ (stmt_sound c line (Do-F.ForEach v t (tree_of x)) (both _ _ (first_of_both (keeps c (repeats v t)) _ e) (sound_tree c x (omega arith) parts.0))) (sound_tree c b (omega arith) parts.1)
+    both _ _ (stmt_sound c line (Do-F.ForEach v t (tree_of x))
+    (both _ _ (first_of_both (keeps c (repeats v t)) _ e) (sound_tree c x (omega arith) parts.0)))
+    (sound_tree c b (omega arith) parts.1)
 sound_tree c (each line v s x b) n e = absurd (omega arith)
 
 -- ---- from the rules
@@ -171,7 +186,8 @@ head_free f s xs free = is_false (f s.deed) (λ e. free s.line (inl (refl, e)))
 tail_free : (f : Deed → Bool) (s : Step) (xs : List Step) → Free f (s ∷ xs) → Free f xs
 tail_free f s xs free = λ line a. free line (inr a)
 
-kept_all : (c : Scope) (xs : List Step) → Free (uses_undeclared c) xs → Free (has_wrong_type c) xs → Free (has_wrong_count c) xs → Free (drops_cont c) xs → Free (lacks_data c) xs → all_keep c xs ≡ true
+kept_all : (c : Scope) (xs : List Step) → Free (uses_undeclared c) xs → Free (has_wrong_type c) xs →
+    Free (has_wrong_count c) xs → Free (drops_cont c) xs → Free (lacks_data c) xs → all_keep c xs ≡ true
 kept_all c [] u t n k d = refl
 kept_all c (s ∷ xs) u t n k d =
     let declared = first_of_both (is_declared c s.deed) _ (un_not _ (head_free (uses_undeclared c) s xs u)) in
@@ -190,18 +206,25 @@ abbrev pub scope_of : Protocol → State → Handler → Scope
 scope_of p t h = record { protocol = p; state = t; handler = h }
 
 -- whatever breaks a rule in this handler breaks it in the protocol
-pub in_handler : (p : Protocol) (t : State) (h : Handler) (P : Scope → Type 0) → Contains p.states t → Contains t.handlers h → P (scope_of p t h)
+pub in_handler : (p : Protocol) (t : State) (h : Handler) (P : Scope → Type 0) → Contains p.states t → Contains t.handlers h →
+    P (scope_of p t h)
     → Any (λ (s : State). Any (λ (k : Handler). P (scope_of p s k)) s.handlers) p.states
 in_handler p t h P c d x = any_at _ p.states t c (any_at _ t.handlers h d x)
 
-pub sound_body : (p : Protocol) (t : State) (h : Handler) → IsAccepted p → Contains p.states t → Contains t.handlers h → are_sound (scope_of p t h) h.body ≡ true
+pub sound_body : (p : Protocol) (t : State) (h : Handler) → IsAccepted p → Contains p.states t → Contains t.handlers h →
+    are_sound (scope_of p t h) h.body ≡ true
 sound_body p t h a i j =
     let c = scope_of p t h in
-    let none : eaches (body_of h.body) ≡ 0 = each_at (λ (k : Handler). eaches (body_of k.body) ≡ 0) t.handlers h j (each_flat _ (λ (s : State). s.handlers) p.states t i a.tree.no_each) in
+    let none : eaches (body_of h.body) ≡ 0 = each_at (λ (k : Handler). eaches (body_of k.body) ≡ 0) t.handlers h j
+    (each_flat _ (λ (s : State). s.handlers) p.states t i a.tree.no_each) in
     let all : all_keep c (steps_in (body_of h.body)) ≡ true = kept_all c (steps_in (body_of h.body))
-    (λ line x. a.keeps line Undeclared (inr (in_handler p t h (λ s. AtHandler (answers_undeclared p s.handler.on) s line ⊎ AtStep uses_undeclared s line) i j (inr x))))
+    (λ line x. a.keeps line Undeclared
+    (inr (in_handler p t h (λ s. AtHandler (answers_undeclared p s.handler.on) s line ⊎ AtStep uses_undeclared s line) i j
+    (inr x))))
     (λ line x. a.keeps line WrongType (in_handler p t h (λ s. AtStep has_wrong_type s line) i j x))
-    (λ line x. a.keeps line ArgCount (inr (in_handler p t h (λ s. AtHandler (counts_wrongly p s.handler.on s.handler.args) s line ⊎ AtStep has_wrong_count s line) i j (inr x))))
+    (λ line x. a.keeps line ArgCount
+    (inr (in_handler p t h (λ s. AtHandler (counts_wrongly p s.handler.on s.handler.args) s line
+    ⊎ AtStep has_wrong_count s line) i j (inr x))))
     (λ line x. a.keeps line ContDropped (in_handler p t h (λ s. AtStep drops_cont s line) i j x))
     (λ line x. a.keeps line NoData (in_handler p t h (λ s. AtStep lacks_data s line) i j x)) in
     subst (λ ss. are_sound c ss ≡ true) (tree-body h.body) (sound_tree c (body_of h.body) none all)

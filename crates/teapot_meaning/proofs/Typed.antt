@@ -1,5 +1,6 @@
 -- The values of expressions have their types.
-use Rattle.std.proofs.Common.{◌≡◌, ◌∙◌, ℕ, Bool, true, false, List, [], ◌∷◌, Option, Some, None, length, map, refl, ap, sym, subst, arith}
+use Rattle.std.proofs.Common.{◌≡◌, ◌∙◌, ℕ, Bool, true, false, List, [], ◌∷◌, Option, Some, None, length, map, refl, ap, sym}
+use Rattle.std.proofs.Common.{subst, arith}
 use Rattle.std.specs.Prelude.{codes, ◌&&◌}
 use Rattle.tw_base.specs.declared.name.Name.{Name}
 use Rattle.tw_base.specs.declared.value.Value.{Value}
@@ -12,7 +13,8 @@ use Rattle.teapot_tree.specs.declared.expr.Op.TheVariants.{Add, Sub, Eq, Ne, Lt,
 use Rattle.teapot_tree.specs.declared.protocol.ValType.{ValType}
 use Rattle.teapot_tree.specs.declared.protocol.ValType.TheVariants as ty
 use Rattle.teapot_tree.specs.Rules.{are_fit, type_in, types_in}
-use Rattle.teapot_tree.specs.Scopes.{Scope, are_alike, is_of, same_type, type_of_two, type_step, type_among, visible, where_of, type_of as expr_type}
+use Rattle.teapot_tree.specs.Scopes.{Scope, are_alike, is_of, same_type, type_of_two, type_step, type_among, visible, where_of}
+use Rattle.teapot_tree.specs.Scopes.{type_of as expr_type}
 use Rattle.teapot_meaning.specs.declared.state.Running.{Running}
 use Rattle.teapot_meaning.specs.Fits.{type_of}
 use Rattle.teapot_meaning.specs.Steps.{values_of}
@@ -69,7 +71,8 @@ count_typed (v.Int n) e = cc
 count_typed (v.Bool b) e = cc
 count_typed (v.Node n) e = cc
 
-ints : (op : Op) (t : ValType) → ((m n : ℕ) → type_of (two_of op (v.Int m) (v.Int n)) ≡ t) → (x y : Value) → type_of x ≡ ty.Int → type_of y ≡ ty.Int → type_of (two_of op x y) ≡ t
+ints : (op : Op) (t : ValType) → ((m n : ℕ) → type_of (two_of op (v.Int m) (v.Int n)) ≡ t) → (x y : Value) →
+    type_of x ≡ ty.Int → type_of y ≡ ty.Int → type_of (two_of op x y) ≡ t
 ints op t f (v.Int m) (v.Int n) e g = f m n
 ints op t f (v.Int m) (v.Bool b) e g = cc
 ints op t f (v.Int m) (v.Node n) e g = cc
@@ -78,7 +81,8 @@ ints op t f (v.Bool b) y e g = cc
 ints op t f (v.Node n) y e g = cc
 ints op t f (v.Set s) y e g = cc
 
-bools : (op : Op) (t : ValType) → ((m n : Bool) → type_of (two_of op (v.Bool m) (v.Bool n)) ≡ t) → (x y : Value) → type_of x ≡ ty.Bool → type_of y ≡ ty.Bool → type_of (two_of op x y) ≡ t
+bools : (op : Op) (t : ValType) → ((m n : Bool) → type_of (two_of op (v.Bool m) (v.Bool n)) ≡ t) → (x y : Value) →
+    type_of x ≡ ty.Bool → type_of y ≡ ty.Bool → type_of (two_of op x y) ≡ t
 bools op t f (v.Bool m) (v.Bool n) e g = f m n
 bools op t f (v.Bool m) (v.Int b) e g = cc
 bools op t f (v.Bool m) (v.Node n) e g = cc
@@ -87,7 +91,8 @@ bools op t f (v.Int b) y e g = cc
 bools op t f (v.Node n) y e g = cc
 bools op t f (v.Set s) y e g = cc
 
-sets : (op : Op) (t : ValType) → ((s : List Bool) (n : ℕ) → type_of (two_of op (v.Set s) (v.Node n)) ≡ t) → (x y : Value) → type_of x ≡ ty.Set → type_of y ≡ ty.Node → type_of (two_of op x y) ≡ t
+sets : (op : Op) (t : ValType) → ((s : List Bool) (n : ℕ) → type_of (two_of op (v.Set s) (v.Node n)) ≡ t) → (x y : Value) →
+    type_of x ≡ ty.Set → type_of y ≡ ty.Node → type_of (two_of op x y) ≡ t
 sets op t f (v.Set s) (v.Node n) e g = f s n
 sets op t f (v.Set s) (v.Bool b) e g = cc
 sets op t f (v.Set s) (v.Int n) e g = cc
@@ -96,7 +101,8 @@ sets op t f (v.Bool b) y e g = cc
 sets op t f (v.Node n) y e g = cc
 sets op t f (v.Int s) y e g = cc
 
-pub both_known : (p q : ValType) (t u : ValType) (a b : Option ValType) → where_of (is_of p a && is_of q b) t ≡ Some u → (a ≡ Some p) × (b ≡ Some q) × (t ≡ u)
+pub both_known : (p q : ValType) (t u : ValType) (a b : Option ValType) → where_of (is_of p a && is_of q b) t ≡ Some u →
+    (a ≡ Some p) × (b ≡ Some q) × (t ≡ u)
 both_known p q t u a b e = by_tests (is_of p a) (is_of q b) refl refl (where_known _ t u e)
   where
     by_tests : (m n : Bool) → is_of p a ≡ m → is_of q b ≡ n → (m && n ≡ true) × (t ≡ u) → (a ≡ Some p) × (b ≡ Some q) × (t ≡ u)
@@ -108,17 +114,26 @@ alike_known : (u : ValType) (a b : Option ValType) → where_of (are_alike a b) 
 alike_known u a b e = (where_known (are_alike a b) ty.Bool u e).1
 
 two_typed : (op : Op) (x y : Value) (a b : Option ValType) → Tells x a → Tells y b → Tells (two_of op x y) (type_of_two op a b)
-two_typed Add x y a b f g t e = let k = both_known ty.Int ty.Int ty.Int t a b e in ints Add ty.Int (λ m n. refl) x y (f _ k.0) (g _ k.1) ∙ k.2
-two_typed Sub x y a b f g t e = let k = both_known ty.Int ty.Int ty.Int t a b e in ints Sub ty.Int (λ m n. refl) x y (f _ k.0) (g _ k.1) ∙ k.2
+two_typed Add x y a b f g t e = let k = both_known ty.Int ty.Int ty.Int t a b e in ints Add ty.Int (λ m n. refl) x y (f _ k.0)
+    (g _ k.1) ∙ k.2
+two_typed Sub x y a b f g t e = let k = both_known ty.Int ty.Int ty.Int t a b e in ints Sub ty.Int (λ m n. refl) x y (f _ k.0)
+    (g _ k.1) ∙ k.2
 two_typed Eq x y a b f g t e = alike_known t a b e
 two_typed Ne x y a b f g t e = alike_known t a b e
-two_typed Lt x y a b f g t e = let k = both_known ty.Int ty.Int ty.Bool t a b e in ints Lt ty.Bool (λ m n. refl) x y (f _ k.0) (g _ k.1) ∙ k.2
-two_typed Le x y a b f g t e = let k = both_known ty.Int ty.Int ty.Bool t a b e in ints Le ty.Bool (λ m n. refl) x y (f _ k.0) (g _ k.1) ∙ k.2
-two_typed And x y a b f g t e = let k = both_known ty.Bool ty.Bool ty.Bool t a b e in bools And ty.Bool (λ m n. refl) x y (f _ k.0) (g _ k.1) ∙ k.2
-two_typed Or x y a b f g t e = let k = both_known ty.Bool ty.Bool ty.Bool t a b e in bools Or ty.Bool (λ m n. refl) x y (f _ k.0) (g _ k.1) ∙ k.2
-two_typed Has x y a b f g t e = let k = both_known ty.Set ty.Node ty.Bool t a b e in sets Has ty.Bool (λ m n. refl) x y (f _ k.0) (g _ k.1) ∙ k.2
-two_typed With x y a b f g t e = let k = both_known ty.Set ty.Node ty.Set t a b e in sets With ty.Set (λ m n. refl) x y (f _ k.0) (g _ k.1) ∙ k.2
-two_typed Without x y a b f g t e = let k = both_known ty.Set ty.Node ty.Set t a b e in sets Without ty.Set (λ m n. refl) x y (f _ k.0) (g _ k.1) ∙ k.2
+two_typed Lt x y a b f g t e = let k = both_known ty.Int ty.Int ty.Bool t a b e in ints Lt ty.Bool (λ m n. refl) x y (f _ k.0)
+    (g _ k.1) ∙ k.2
+two_typed Le x y a b f g t e = let k = both_known ty.Int ty.Int ty.Bool t a b e in ints Le ty.Bool (λ m n. refl) x y (f _ k.0)
+    (g _ k.1) ∙ k.2
+two_typed And x y a b f g t e = let k = both_known ty.Bool ty.Bool ty.Bool t a b e in bools And ty.Bool (λ m n. refl) x y
+    (f _ k.0) (g _ k.1) ∙ k.2
+two_typed Or x y a b f g t e = let k = both_known ty.Bool ty.Bool ty.Bool t a b e in bools Or ty.Bool (λ m n. refl) x y
+    (f _ k.0) (g _ k.1) ∙ k.2
+two_typed Has x y a b f g t e = let k = both_known ty.Set ty.Node ty.Bool t a b e in sets Has ty.Bool (λ m n. refl) x y
+    (f _ k.0) (g _ k.1) ∙ k.2
+two_typed With x y a b f g t e = let k = both_known ty.Set ty.Node ty.Set t a b e in sets With ty.Set (λ m n. refl) x y
+    (f _ k.0) (g _ k.1) ∙ k.2
+two_typed Without x y a b f g t e = let k = both_known ty.Set ty.Node ty.Set t a b e in sets Without ty.Set (λ m n. refl) x y
+    (f _ k.0) (g _ k.1) ∙ k.2
 
 pub one_known : (p t u : ValType) (a : Option ValType) → where_of (is_of p a) t ≡ Some u → (a ≡ Some p) × (t ≡ u)
 one_known p t u a e = let k = where_known (is_of p a) t u e in (is_of_some p a k.0, k.1)
@@ -140,15 +155,18 @@ module _ (c : Scope) (r : Running) (reads : ReadsTyped c r) where
   abbrev whole_of : Expr-F Part → Expr-F Expr
   whole_of = map-Expr Part Expr (λ p. p.0)
 
-  value-roll : (x : Expr-F Expr) → value_of c.protocol r (roll-Expr x) ≡ value_step c.protocol r (map-Expr Expr Value (value_of c.protocol r) x)
+  value-roll : (x : Expr-F Expr) → value_of c.protocol r (roll-Expr x)
+      ≡ value_step c.protocol r (map-Expr Expr Value (value_of c.protocol r) x)
   unfolding value_of
   value-roll x = fold-roll-Expr Value (value_step c.protocol r) x
 
-  type-roll : (x : Expr-F Expr) → expr_type (visible c) (roll-Expr x) ≡ type_step (visible c) (map-Expr Expr (Option ValType) (expr_type (visible c)) x)
+  type-roll : (x : Expr-F Expr) → expr_type (visible c) (roll-Expr x)
+      ≡ type_step (visible c) (map-Expr Expr (Option ValType) (expr_type (visible c)) x)
   unfolding expr_type
   type-roll x = fold-roll-Expr (Option ValType) (type_step (visible c)) x
 
-  level : (y : Expr-F Part) → Tells (value_step c.protocol r (map-Expr Expr Value (value_of c.protocol r) (whole_of y))) (type_step (visible c) (map-Expr Expr (Option ValType) (expr_type (visible c)) (whole_of y)))
+  level : (y : Expr-F Part) → Tells (value_step c.protocol r (map-Expr Expr Value (value_of c.protocol r) (whole_of y)))
+      (type_step (visible c) (map-Expr Expr (Option ValType) (expr_type (visible c)) (whole_of y)))
   level (Expr-F.Number n) t e = cc
   level Expr-F.True t e = cc
   level Expr-F.False t e = cc
@@ -157,10 +175,14 @@ module _ (c : Scope) (r : Running) (reads : ReadsTyped c r) where
   level Expr-F.SelfNode t e = cc
   level Expr-F.Home t e = cc
   level (Expr-F.Var n) t e = reads.names n t e
-  level (Expr-F.One a) t e = let k = one_known ty.Node ty.Set t (type_in c a.0) e in one_typed (value_of c.protocol r a.0) (a.1 _ k.0) ∙ k.1
-  level (Expr-F.Not a) t e = let k = one_known ty.Bool ty.Bool t (type_in c a.0) e in not_typed (value_of c.protocol r a.0) (a.1 _ k.0) ∙ k.1
-  level (Expr-F.Count a) t e = let k = one_known ty.Set ty.Int t (type_in c a.0) e in count_typed (value_of c.protocol r a.0) (a.1 _ k.0) ∙ k.1
-  level (Expr-F.Two op a b) t e = two_typed op (value_of c.protocol r a.0) (value_of c.protocol r b.0) (type_in c a.0) (type_in c b.0) a.1 b.1 t e
+  level (Expr-F.One a) t e = let k = one_known ty.Node ty.Set t (type_in c a.0) e in one_typed (value_of c.protocol r a.0)
+      (a.1 _ k.0) ∙ k.1
+  level (Expr-F.Not a) t e = let k = one_known ty.Bool ty.Bool t (type_in c a.0) e in not_typed (value_of c.protocol r a.0)
+      (a.1 _ k.0) ∙ k.1
+  level (Expr-F.Count a) t e = let k = one_known ty.Set ty.Int t (type_in c a.0) e in count_typed (value_of c.protocol r a.0)
+      (a.1 _ k.0) ∙ k.1
+  level (Expr-F.Two op a b) t e = two_typed op (value_of c.protocol r a.0) (value_of c.protocol r b.0) (type_in c a.0)
+      (type_in c b.0) a.1 b.1 t e
 
   at_level : (y : Expr-F Part) → Holds (roll-Expr (whole_of y))
   at_level y t e = ap type_of (value-roll (whole_of y)) ∙ level y t (sym (type-roll (whole_of y)) ∙ e)
@@ -169,11 +191,14 @@ module _ (c : Scope) (r : Running) (reads : ReadsTyped c r) where
   value_typed = ind-Expr Holds (λ x y is. subst (λ z. Holds (roll-Expr z)) is (at_level y))
 
   -- arguments, of as many as are declared
-  pub args_typed : (ts : List ValType) (es : List Expr) → are_fit ts (types_in c es) ≡ true → length es ≡ length ts → map type_of (values_of c.protocol r es) ≡ ts
+  pub args_typed : (ts : List ValType) (es : List Expr) → are_fit ts (types_in c es) ≡ true → length es ≡ length ts →
+      map type_of (values_of c.protocol r es) ≡ ts
   args_typed [] [] f n = refl
   args_typed [] (e ∷ es) f n = absurd (omega arith)
   args_typed (t ∷ ts) [] f n = absurd (omega arith)
   args_typed (t ∷ ts) (e ∷ es) f n =
-      let head : type_of (value_of c.protocol r e) ≡ t = value_typed e t (is_of_some t (type_in c e) (first_of_both (is_of t (type_in c e)) _ f)) in
-      let tail : map type_of (values_of c.protocol r es) ≡ ts = args_typed ts es (second_of_both (is_of t (type_in c e)) _ f) (omega arith) in
+      let head : type_of (value_of c.protocol r e) ≡ t = value_typed e t
+      (is_of_some t (type_in c e) (first_of_both (is_of t (type_in c e)) _ f)) in
+      let tail : map type_of (values_of c.protocol r es) ≡ ts =
+      args_typed ts es (second_of_both (is_of t (type_in c e)) _ f) (omega arith) in
       ap (λ x. x ∷ map type_of (values_of c.protocol r es)) head ∙ ap (λ xs. t ∷ xs) tail

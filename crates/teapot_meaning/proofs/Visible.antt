@@ -1,5 +1,6 @@
 -- The names that are visible in a handler of an accepted protocol are all different, and none is `src`.
-use Rattle.std.proofs.Common.{◌≡◌, ◌∙◌, ℕ, Bool, true, false, List, [], ◌∷◌, ◌++◌, Some, None, map, refl, ap, sym, subst, inl, inr}
+use Rattle.std.proofs.Common.{◌≡◌, ◌∙◌, ℕ, Bool, true, false, List, [], ◌∷◌, ◌++◌, Some, None, map, refl, ap, sym, subst, inl}
+use Rattle.std.proofs.Common.{inr}
 use Rattle.std.specs.Prelude.{cond, codes, find, is_some, Contains, ◌⊎◌}
 use Rattle.std.specs.Str.{bytes_eq}
 use Rattle.std.proofs.lemmas.Slice.Eq.{bytes_eq-Decides}
@@ -16,7 +17,8 @@ use Rattle.teapot_tree.specs.Keywords.{keyword_of}
 use Rattle.teapot_tree.specs.Parts.{handler_names, option_words, state_names, trigger_words}
 use Rattle.teapot_tree.specs.Rules.{Again, Any, IsAccepted, OnPath, visible_names}
 use Rattle.teapot_tree.specs.Paths.{Follows, is_enqueue}
-use Rattle.teapot_tree.specs.Scopes.{Scope, Variable, args_of, infos_in, is_among, locals_in, of_param, taken_message, typed, visible}
+use Rattle.teapot_tree.specs.Scopes.{Scope, Variable, args_of, infos_in, is_among, locals_in, of_param, taken_message, typed}
+use Rattle.teapot_tree.specs.Scopes.{visible}
 use Rattle.teapot_meaning.proofs.Found.{each_both, each_flat, each_left, each_right, is_false}
 use Rattle.teapot_meaning.proofs.Sound.{in_handler, scope_of}
 
@@ -49,10 +51,12 @@ pub apart_parts : (us vs : List Variable) (n : Name) → Apart (us ++ vs) → is
 apart_parts [] vs n a e = cc
 apart_parts (u ∷ us) vs n a e = by_test (bytes_eq u.name n) refl e (apart_parts us vs n a.1)
   where
-    by_test : (b : Bool) → bytes_eq u.name n ≡ b → is_some (cond b (Some u) (find (λ w. bytes_eq w.name n) us)) ≡ true → (is_among us n ≡ true → is_among vs n ≡ false) → is_among vs n ≡ false
+    by_test : (b : Bool) → bytes_eq u.name n ≡ b → is_some (cond b (Some u) (find (λ w. bytes_eq w.name n) us)) ≡ true →
+        (is_among us n ≡ true → is_among vs n ≡ false) → is_among vs n ≡ false
     by_test true h e more =
         let same : u.name ≡ n = (bytes_eq-Decides u.name n).0 h in
-        is_false _ (λ k. let m : is_among (us ++ vs) u.name ≡ true = subst (λ w. is_among (us ++ vs) w ≡ true) (sym same) (among_right us vs n k) in let f = a.0 in cc)
+        is_false _ (λ k. let m : is_among (us ++ vs) u.name ≡ true = subst (λ w. is_among (us ++ vs) w ≡ true) (sym same)
+        (among_right us vs n k) in let f = a.0 in cc)
     by_test false h e more = more e
 
 -- ---- from the rules
@@ -61,16 +65,20 @@ abbrev named : List (Name × ℕ) → List Name
 named xs = map (λ (x : Name × ℕ). x.0) xs
 
 -- another of the name, and its line
-has_again : (n : Name) (xs : List (Name × ℕ)) (vs : List Variable) → map name_in vs ≡ named xs → is_among vs n ≡ true → (line : ℕ) × Any (λ (y : Name × ℕ). (y.0 ≡ n) × (y.1 ≡ line)) xs
+has_again : (n : Name) (xs : List (Name × ℕ)) (vs : List Variable) → map name_in vs ≡ named xs → is_among vs n ≡ true →
+    (line : ℕ) × Any (λ (y : Name × ℕ). (y.0 ≡ n) × (y.1 ≡ line)) xs
 has_again n [] [] e h = cc
 has_again n [] (v ∷ vs) e h = cc
 has_again n (x ∷ xs) [] e h = cc
-has_again n (x ∷ xs) (v ∷ vs) e h = let tails : map name_in vs ≡ named xs = cc in by_test (bytes_eq v.name n) refl h (has_again n xs vs tails)
+has_again n (x ∷ xs) (v ∷ vs) e h = let tails : map name_in vs ≡ named xs =
+    cc in by_test (bytes_eq v.name n) refl h (has_again n xs vs tails)
   where
     heads : v.name ≡ x.0
     heads = cc
 
-    by_test : (b : Bool) → bytes_eq v.name n ≡ b → is_some (cond b (Some v) (find (λ w. bytes_eq w.name n) vs)) ≡ true → (is_among vs n ≡ true → (line : ℕ) × Any (λ (y : Name × ℕ). (y.0 ≡ n) × (y.1 ≡ line)) xs) → (line : ℕ) × Any (λ (y : Name × ℕ). (y.0 ≡ n) × (y.1 ≡ line)) (x ∷ xs)
+    by_test : (b : Bool) → bytes_eq v.name n ≡ b → is_some (cond b (Some v) (find (λ w. bytes_eq w.name n) vs)) ≡ true →
+        (is_among vs n ≡ true → (line : ℕ) × Any (λ (y : Name × ℕ). (y.0 ≡ n) × (y.1 ≡ line)) xs) →
+        (line : ℕ) × Any (λ (y : Name × ℕ). (y.0 ≡ n) × (y.1 ≡ line)) (x ∷ xs)
     by_test true k h more = (x.1, inl (sym heads ∙ (bytes_eq-Decides v.name n).0 k, refl))
     by_test false k h more = let m = more h in (m.0, inr m.1)
 
@@ -80,8 +88,11 @@ apart_of [] (v ∷ vs) e free = cc
 apart_of (x ∷ xs) [] e free = tt
 apart_of (x ∷ xs) (v ∷ vs) e free =
     let heads : v.name ≡ x.0 = cc in
-    let tails : map name_in vs ≡ named xs = cc in
-    (is_false _ (λ h. let again = has_again x.0 xs vs tails (subst (λ w. is_among vs w ≡ true) heads h) in free again.0 (inl again.1)), apart_of xs vs tails (λ line a. free line (inr a)))
+    let tails : map name_in vs ≡ named xs = cc in (
+      is_false _ (λ h. let again = has_again x.0 xs vs tails (subst (λ w. is_among vs w ≡ true) heads h) in free again.0
+          (inl again.1)),
+      apart_of xs vs tails (λ line a. free line (inr a)),
+    )
 
 pub map_both : {X Y : Type 0} (f : X → Y) (xs ys : List X) → map f (xs ++ ys) ≡ map f xs ++ map f ys
 map_both f [] ys = refl
@@ -96,19 +107,26 @@ args_named line [] ts = refl
 args_named line (n ∷ ns) [] = ap (λ ms. n ∷ ms) (args_named line ns [])
 args_named line (n ∷ ns) (t ∷ ts) = ap (λ ms. n ∷ ms) (args_named line ns ts)
 
-joined_names : (us vs : List Variable) (xs ys : List (Name × ℕ)) → map name_in us ≡ named xs → map name_in vs ≡ named ys → map name_in (us ++ vs) ≡ named (xs ++ ys)
-joined_names us vs xs ys e f = map_both name_in us vs ∙ ap (λ ns. ns ++ map name_in vs) e ∙ ap (λ ns. named xs ++ ns) f ∙ sym (map_both (λ (x : Name × ℕ). x.0) xs ys)
+joined_names : (us vs : List Variable) (xs ys : List (Name × ℕ)) → map name_in us ≡ named xs → map name_in vs ≡ named ys →
+    map name_in (us ++ vs) ≡ named (xs ++ ys)
+joined_names us vs xs ys e f = map_both name_in us vs ∙ ap (λ ns. ns ++ map name_in vs) e ∙ ap (λ ns. named xs ++ ns) f
+    ∙ sym (map_both (λ (x : Name × ℕ). x.0) xs ys)
 
 visible_named : (c : Scope) → map name_in (visible c) ≡ named (visible_names c)
 visible_named c =
     let args = args_named c.handler.line c.handler.args (args_of (taken_message c.protocol c.handler.on)) in
     let inner = joined_names _ (locals_in c) _ _ args (params_named c.handler.locals) in
-    joined_names (infos_in c) _ _ _ (params_named c.protocol.infos) (joined_names (map of_param c.state.params) _ _ _ (params_named c.state.params) inner)
+    joined_names (infos_in c) _ _ _ (params_named c.protocol.infos)
+    (joined_names (map of_param c.state.params) _ _ _ (params_named c.state.params) inner)
 
-pub visible_apart : (p : Protocol) (t : State) (h : Handler) → IsAccepted p → Contains p.states t → Contains t.handlers h → Apart (visible (scope_of p t h))
+pub visible_apart : (p : Protocol) (t : State) (h : Handler) → IsAccepted p → Contains p.states t → Contains t.handlers h →
+    Apart (visible (scope_of p t h))
 visible_apart p t h a i j =
     apart_of (visible_names (scope_of p t h)) (visible (scope_of p t h)) (visible_named (scope_of p t h))
-    (λ line x. a.keeps line Twice (inr (inr (inr (inr (inr (in_handler p t h (λ s. Again (visible_names s) line ⊎ OnPath (Follows is_enqueue is_enqueue line) s) i j (inl x))))))))
+    (λ line x. a.keeps line Twice
+    (inr (inr (inr (inr
+    (inr (in_handler p t h (λ s. Again (visible_names s) line ⊎ OnPath (Follows is_enqueue is_enqueue line) s) i j
+    (inl x))))))))
 
 -- ---- none is `src`
 
@@ -122,9 +140,12 @@ src_taken profile (inr e) h = let k : keyword_of 2 (codes "src") ≡ None = subs
 
 name_free : (profile : ℕ) (n : Name) → (profile ≡ 1) ⊎ (profile ≡ 2) → IsName profile n → Free n
 name_free profile n two is_name =
-    is_false _ (λ e. src_taken profile two (subst (λ w. keyword_of profile w ≡ None) (sym ((bytes_eq-Decides (codes "src") n).0 e)) is_name.free))
+    is_false _
+    (λ e. src_taken profile two (subst (λ w. keyword_of profile w ≡ None)
+    (sym ((bytes_eq-Decides (codes "src") n).0 e)) is_name.free))
 
-params_free : (P : Name → Type 0) (ps : List Param) → Each P (map (λ a. a.name) ps) → Each (λ (v : Variable). P v.name) (map of_param ps)
+params_free : (P : Name → Type 0) (ps : List Param) → Each P (map (λ a. a.name) ps) →
+    Each (λ (v : Variable). P v.name) (map of_param ps)
 params_free P [] h = tt
 params_free P (a ∷ ps) h = (h.0, params_free P ps h.1)
 
@@ -133,7 +154,8 @@ args_free P [] ts h = tt
 args_free P (n ∷ ns) [] h = (h.0, args_free P ns [] h.1)
 args_free P (n ∷ ns) (t ∷ ts) h = (h.0, args_free P ns ts h.1)
 
-visible_are : (p : Protocol) (t : State) (h : Handler) → IsTree p → Contains p.states t → Contains t.handlers h → Each (λ (v : Variable). IsName p.profile v.name) (visible (scope_of p t h))
+visible_are : (p : Protocol) (t : State) (h : Handler) → IsTree p → Contains p.states t → Contains t.handlers h →
+    Each (λ (v : Variable). IsName p.profile v.name) (visible (scope_of p t h))
 visible_are p t h tree i j =
     let N = IsName p.profile in
     let more = each_right N (map (λ m. m.name) p.messages) _ tree.names.1 in
@@ -154,7 +176,8 @@ among_free : (vs : List Variable) (n : Name) → Each (λ (v : Variable). Free v
 among_free [] n f e = cc
 among_free (v ∷ vs) n f e = by_test (bytes_eq v.name n) refl e (among_free vs n f.1)
   where
-    by_test : (b : Bool) → bytes_eq v.name n ≡ b → is_some (cond b (Some v) (find (λ w. bytes_eq w.name n) vs)) ≡ true → (is_among vs n ≡ true → Free n) → Free n
+    by_test : (b : Bool) → bytes_eq v.name n ≡ b → is_some (cond b (Some v) (find (λ w. bytes_eq w.name n) vs)) ≡ true →
+        (is_among vs n ≡ true → Free n) → Free n
     by_test true h e more = subst Free ((bytes_eq-Decides v.name n).0 h) f.0
     by_test false h e more = more e
 
@@ -162,7 +185,8 @@ each_under : {X : Type 0} (P Q : X → Type 0) → ((x : X) → P x → Q x) →
 each_under P Q f [] h = tt
 each_under P Q f (x ∷ xs) h = (f x h.0, each_under P Q f xs h.1)
 
-pub visible_free : (p : Protocol) (t : State) (h : Handler) → IsTree p → Contains p.states t → Contains t.handlers h → (n : Name) → is_among (visible (scope_of p t h)) n ≡ true → bytes_eq (codes "src") n ≡ false
+pub visible_free : (p : Protocol) (t : State) (h : Handler) → IsTree p → Contains p.states t → Contains t.handlers h →
+    (n : Name) → is_among (visible (scope_of p t h)) n ≡ true → bytes_eq (codes "src") n ≡ false
 visible_free p t h tree i j n e =
     among_free (visible (scope_of p t h)) n
     (each_under _ _ (λ v k. name_free p.profile v.name tree.profiles k) (visible (scope_of p t h)) (visible_are p t h tree i j)) e

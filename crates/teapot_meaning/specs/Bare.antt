@@ -9,10 +9,14 @@ use Rattle.teapot_meaning.specs.declared.state.Running.{Running}
 use Rattle.teapot_meaning.specs.declared.state.StateVal.{StateVal, roll-StateVal, fold-StateVal}
 
 unfoldable pub bare_val : StateVal → StateVal
-bare_val = fold-StateVal Cont StateVal (λ k. roll-Cont (record { rest = bare_all k.rest; vars = k.vars; came = k.came; saved = k.saved })) roll-StateVal
+bare_val =
+    fold-StateVal Cont StateVal
+    (λ k. roll-Cont (record { rest = bare_all k.rest; vars = k.vars; came = k.came; saved = k.saved })) roll-StateVal
 
 unfoldable pub bare_cont : Cont → Cont
-bare_cont = fold-Cont Cont StateVal (λ k. roll-Cont (record { rest = bare_all k.rest; vars = k.vars; came = k.came; saved = k.saved })) roll-StateVal
+bare_cont =
+    fold-Cont Cont StateVal (λ k. roll-Cont (record { rest = bare_all k.rest; vars = k.vars; came = k.came; saved = k.saved }))
+    roll-StateVal
 
 abbrev pub bare_here : Here → Here
 bare_here h = record h { state = bare_val h.state }

@@ -23,4 +23,5 @@ pub record StaysFit (p : Protocol) (here : Here) (m : Message) : Type 0 where
 -- Under an accepted protocol a block that fits stays so, whatever message of the protocol it handles.
 abbrev pub FittingBlocksStayFit : Type 0
 FittingBlocksStayFit =
-    (p : Protocol) (here : Here) (m : Message) → IsAccepted p → Fits p here → IsMessageOf p (length here.words) m → StaysFit p here m
+    (p : Protocol) (here : Here) (m : Message) → IsAccepted p → Fits p here → IsMessageOf p (length here.words) m →
+    StaysFit p here m

@@ -1,5 +1,6 @@
 -- What each statement does.
-use Rattle.std.specs.Prelude.{ℕ, ◌∷◌, ◌++◌, Bool, true, if◌then◌else◌, nat_le, List, [], Option, Some, None, map, slice_get, slice_set, position, unwrap_or}
+use Rattle.std.specs.Prelude.{ℕ, ◌∷◌, ◌++◌, Bool, true, if◌then◌else◌, nat_le, List, [], Option, Some, None, map, slice_get}
+use Rattle.std.specs.Prelude.{slice_set, position, unwrap_or}
 use Rattle.std.specs.Str.{bytes_eq}
 use Rattle.tw_base.specs.NodeSets.{empty, without}
 use Rattle.tw_base.specs.declared.name.Name.{Name}
@@ -98,7 +99,11 @@ set_of _ = empty
 
 -- to each node of the set in rising order
 unfoldable pub sent_all : Protocol → Running → Value → ℕ → List Value → Running
-sent_all p r to number args = record r { sends = r.sends ++ map (out_to number args (payload_of (slice_get p.messages number) r.here.words)) (nodes_in (set_of to)) }
+sent_all p r to number args =
+    record r {
+      sends = r.sends ++ map (out_to number args (payload_of (slice_get p.messages number) r.here.words))
+          (nodes_in (set_of to));
+    }
 
 abbrev pub freed_kept : Kept → Kept
 freed_kept Stale = Eligible

@@ -1,5 +1,6 @@
 -- The values of expressions.
-use Rattle.std.specs.Prelude.{ℕ, ◌+◌, ◌-◌, ◌^◌, min, Bool, true, false, not, ◌&&◌, ◌||◌, ◌==◌, nat_lt, nat_le, List, Option, Some, None, slice_get, find, unwrap_or, codes}
+use Rattle.std.specs.Prelude.{ℕ, ◌+◌, ◌-◌, ◌^◌, min, Bool, true, false, not, ◌&&◌, ◌||◌, ◌==◌, nat_lt, nat_le, List, Option}
+use Rattle.std.specs.Prelude.{Some, None, slice_get, find, unwrap_or, codes}
 use Rattle.std.specs.Str.{bytes_eq}
 use Rattle.tw_base.specs.declared.name.Name.{Name}
 use Rattle.tw_base.specs.NodeSets.{bits_of, count, empty, has, one, with, without}

@@ -32,5 +32,6 @@ pub fn fitting_blocks_stay_fit()
 /// The meaning does not look at line numbers: with every line 0, in the protocol and in the block, it is the same but
 /// for lines.
 pub fn same_without_lines()
-    ensures { (p : Protocol) (here : Here) (m : Message) (e : Ended) → Does p here m e → Does (bare_protocol p) (bare_here here) m (bare_ended e) }
+    ensures { (p : Protocol) (here : Here) (m : Message) (e : Ended) → Does p here m e →
+        Does (bare_protocol p) (bare_here here) m (bare_ended e) }
 {}

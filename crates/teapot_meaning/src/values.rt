@@ -3,7 +3,8 @@ ghost use Rattle.std.specs.Option.{option_copied};
 ghost use Rattle.teapot_meaning.specs.Does.{zero_of};
 ghost use Rattle.teapot_meaning.specs.Names.{info_number};
 ghost use Rattle.teapot_meaning.specs.Steps.{node_of, set_of};
-ghost use Rattle.teapot_meaning.specs.Values.{bound_in, count_of, info_at, not_of, one_of, same_value, two_of, value_of, variable};
+ghost use Rattle.teapot_meaning.specs.Values.{bound_in, count_of, info_at, not_of, one_of, same_value, two_of, value_of};
+ghost use Rattle.teapot_meaning.specs.Values.{variable};
 
 use crate::names::info_place;
 use crate::state::{Bound, Here, Running};

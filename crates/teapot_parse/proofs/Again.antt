@@ -1,5 +1,6 @@
 -- The lines that a tree gives are read as that tree.
-use Rattle.std.proofs.Common.{◌≡◌, ◌≤◌, ℕ, Bool, true, false, cond, List, [], ◌∷◌, length, map, Some, None, Ok, refl, ap, sym, ◌∙◌, subst, inl, inr}
+use Rattle.std.proofs.Common.{◌≡◌, ◌≤◌, ℕ, Bool, true, false, cond, List, [], ◌∷◌, length, map, Some, None, Ok, refl, ap, sym}
+use Rattle.std.proofs.Common.{◌∙◌, subst, inl, inr}
 use Rattle.std.specs.Prelude.{◌⊎◌, codes}
 use Rattle.std.specs.List.{flat_map}
 use Rattle.std.specs.Str.{bytes_eq}
@@ -41,7 +42,8 @@ keyword-same : (w : List ℕ) → bytes_eq w (codes "ForEach") ≡ false → key
 unfolding keyword_of
 keyword-same w e = rw e refl
 
-word-same : (w : List ℕ) (b : Bool) → bytes_eq w (codes "ForEach") ≡ b → (keyword_of 1 w ≡ keyword_of 2 w) ⊎ (bytes_eq w (codes "ForEach") ≡ true)
+word-same : (w : List ℕ) (b : Bool) → bytes_eq w (codes "ForEach") ≡ b →
+    (keyword_of 1 w ≡ keyword_of 2 w) ⊎ (bytes_eq w (codes "ForEach") ≡ true)
 word-same w false e = inl (keyword-same w e)
 word-same w true e = inr e
 
@@ -73,7 +75,8 @@ no-named s w a b = cc
 no-number : (s : Seen) (n : ℕ) → s ≡ Number n → s ≡ Key k.ForEach → ⊥
 no-number s n a b = cc
 
-two-named : (ts : List Token) (n : List ℕ) → map (seen 2) ts ≡ Key k.Protocol ∷ Named n ∷ Number 2 ∷ [] → names_two (map (seen 1) ts) ≡ true
+two-named : (ts : List Token) (n : List ℕ) → map (seen 2) ts ≡ Key k.Protocol ∷ Named n ∷ Number 2 ∷ [] →
+    names_two (map (seen 1) ts) ≡ true
 two-named [] n e = absurd cc
 two-named (a ∷ []) n e = absurd cc
 two-named (a ∷ b ∷ []) n e = absurd cc
@@ -81,18 +84,27 @@ two-named (a ∷ b ∷ c ∷ []) n e =
     let ea : seen 2 a ≡ Key k.Protocol = cc in
     let eb : seen 2 b ≡ Named n = cc in
     let ec : seen 2 c ≡ Number 2 = cc in
-    rw (seen-same a.what (Key k.Protocol) ea (no-key (Key k.Protocol) refl), seen-same b.what (Named n) eb (no-named (Named n) n refl), seen-same c.what (Number 2) ec (no-number (Number 2) 2 refl)) refl
+    rw (
+      seen-same a.what (Key k.Protocol) ea (no-key (Key k.Protocol) refl),
+      seen-same b.what (Named n) eb (no-named (Named n) n refl),
+      seen-same c.what (Number 2) ec (no-number (Number 2) 2 refl),
+    ) refl
 two-named (a ∷ b ∷ c ∷ d ∷ ts) n e = absurd cc
 
-pub profile_by : (profile : ℕ) (ts : List Token) (n : List ℕ) → (profile ≡ 1) ⊎ (profile ≡ 2) → map (seen profile) ts ≡ Key k.Protocol ∷ Named n ∷ spelled_profile profile → cond (names_two (map (seen 1) ts)) 2 1 ≡ profile
+pub profile_by : (profile : ℕ) (ts : List Token) (n : List ℕ) → (profile ≡ 1) ⊎ (profile ≡ 2) →
+    map (seen profile) ts ≡ Key k.Protocol ∷ Named n ∷ spelled_profile profile →
+    cond (names_two (map (seen 1) ts)) 2 1 ≡ profile
 profile_by profile ts n (inl one) e =
-    let here : map (seen 1) ts ≡ Key k.Protocol ∷ Named n ∷ [] = subst (λ p. map (seen p) ts ≡ Key k.Protocol ∷ Named n ∷ spelled_profile p) one e in
+    let here : map (seen 1) ts ≡ Key k.Protocol ∷ Named n ∷ [] =
+    subst (λ p. map (seen p) ts ≡ Key k.Protocol ∷ Named n ∷ spelled_profile p) one e in
     rw (here, one) refl
 profile_by profile ts n (inr two) e =
-    let here : map (seen 2) ts ≡ Key k.Protocol ∷ Named n ∷ Number 2 ∷ [] = subst (λ p. map (seen p) ts ≡ Key k.Protocol ∷ Named n ∷ spelled_profile p) two e in
+    let here : map (seen 2) ts ≡ Key k.Protocol ∷ Named n ∷ Number 2 ∷ [] =
+    subst (λ p. map (seen p) ts ≡ Key k.Protocol ∷ Named n ∷ spelled_profile p) two e in
     rw (two-named ts n here, two) refl
 
-profile-again : (lines : List Line) (p : Protocol) (qs rest : Lines) → (p.profile ≡ 1) ⊎ (p.profile ≡ 2) → SpellAll p.profile lines qs → map erased qs ≡ (p.line, f.Protocol p.name p.profile) ∷ rest → profile_of lines ≡ p.profile
+profile-again : (lines : List Line) (p : Protocol) (qs rest : Lines) → (p.profile ≡ 1) ⊎ (p.profile ≡ 2) →
+    SpellAll p.profile lines qs → map erased qs ≡ (p.line, f.Protocol p.name p.profile) ∷ rest → profile_of lines ≡ p.profile
 profile-again [] p [] rest which h e = absurd cc
 profile-again [] p (q ∷ qs) rest which h e = absurd h
 profile-again (l ∷ ls) p [] rest which h e = absurd h
@@ -111,7 +123,8 @@ pub each-both : {X : Type 0} (P Q : X → Type 0) (xs : List X) → Each P xs �
 each-both P Q [] h k = tt
 each-both P Q (x ∷ xs) (h, hs) (k, ks) = ((h, k), each-both P Q xs hs ks)
 
-pub each-flat : (P : Handler → Type 0) (ss : List State) → Each P (flat_map (λ (s : State). s.handlers) ss) → Each (λ (s : State). Each P s.handlers) ss
+pub each-flat : (P : Handler → Type 0) (ss : List State) → Each P (flat_map (λ (s : State). s.handlers) ss) →
+    Each (λ (s : State). Each P s.handlers) ss
 each-flat P [] h = tt
 each-flat P (s ∷ ss) h =
     let parts = each-parts P s.handlers (flat_map (λ (x : State). x.handlers) ss) h in
@@ -120,18 +133,25 @@ each-flat P (s ∷ ss) h =
 pub plain-states : (p : Protocol) → IsTree p → Each IsPlainState p.states
 plain-states p t =
     let hs = handlers_of p in
-    let two = each-both NoDefaultArgs (λ (h : Handler). (eaches (body_of h.body) ≡ 0) × Each IsShallow (exprs_of h)) hs t.default_args (each-both (λ (h : Handler). eaches (body_of h.body) ≡ 0) (λ (h : Handler). Each IsShallow (exprs_of h)) hs t.no_each t.shallow) in
+    let two = each-both NoDefaultArgs (λ (h : Handler). (eaches (body_of h.body) ≡ 0) × Each IsShallow (exprs_of h)) hs
+    t.default_args (each-both (λ (h : Handler). eaches (body_of h.body) ≡ 0)
+    (λ (h : Handler). Each IsShallow (exprs_of h)) hs t.no_each t.shallow) in
     let plains = each-map _ IsPlain (λ h x. (x.0, x.1.0, x.1.1)) hs two in
     each-both OnOneLine (λ (s : State). Each IsPlain s.handlers) p.states t.param_lines (each-flat IsPlain p.states plains)
 
 pub small-states : (p : Protocol) → IsTree p → Each IsSmall p.states
 small-states p t =
     let hs = handlers_of p in
-    let limits = each-both (λ (h : Handler). length h.locals ≤ 8) (λ (h : Handler). Each IsShallow (exprs_of h) × ((nest (body_of h.body) ≤ 16) × (loops (body_of h.body) ≤ 4))) hs t.few_locals
-    (each-both (λ (h : Handler). Each IsShallow (exprs_of h)) (λ (h : Handler). (nest (body_of h.body) ≤ 16) × (loops (body_of h.body) ≤ 4)) hs t.shallow
-    (each-both (λ (h : Handler). nest (body_of h.body) ≤ 16) (λ (h : Handler). loops (body_of h.body) ≤ 4) hs t.little_nest t.few_loops)) in
+    let limits = each-both (λ (h : Handler). length h.locals ≤ 8)
+    (λ (h : Handler). Each IsShallow (exprs_of h) × ((nest (body_of h.body) ≤ 16) × (loops (body_of h.body) ≤ 4))) hs
+    t.few_locals
+    (each-both (λ (h : Handler). Each IsShallow (exprs_of h))
+    (λ (h : Handler). (nest (body_of h.body) ≤ 16) × (loops (body_of h.body) ≤ 4)) hs t.shallow
+    (each-both (λ (h : Handler). nest (body_of h.body) ≤ 16)
+    (λ (h : Handler). loops (body_of h.body) ≤ 4) hs t.little_nest t.few_loops)) in
     let within = each-map _ IsWithin (λ h x. (x.0, x.1.0, x.1.1.0, x.1.1.1)) hs limits in
-    each-both (λ (s : State). length s.params ≤ 4) (λ (s : State). Each IsWithin s.handlers) p.states t.few_params (each-flat IsWithin p.states within)
+    each-both (λ (s : State). length s.params ≤ 4) (λ (s : State). Each IsWithin s.handlers) p.states t.few_params
+    (each-flat IsWithin p.states within)
 
 -- ---- the whole
 
@@ -139,9 +159,12 @@ pub parsed-again : (lines : List Line) (p : Protocol) (after : ℕ) → IsTree p
 unfolding parsed
 parsed-again lines p after t (qs, spelled, given) =
     let nested : judged (kinds (cut_lines qs)) ≡ Nested =
-    ap judged (kinds-at qs ∙ sym (kinds-erased qs) ∙ ap (map kind_at) given) ∙ nested-judged (map kind_at (lines_of p)) (tree-nests p) in
+    ap judged (kinds-at qs ∙ sym (kinds-erased qs) ∙ ap (map kind_at) given)
+    ∙ nested-judged (map kind_at (lines_of p)) (tree-nests p) in
     let few : first_over no_counts (cut_lines qs) ≡ None =
-    over-erased qs no_counts (ap (λ ls. first_over no_counts (cut_lines ls)) given ∙ tree-within p t.few_states t.few_handlers t.few_messages t.few_infos t.few_message_args (small-states p t)) in
+    over-erased qs no_counts (ap (λ ls. first_over no_counts (cut_lines ls)) given
+    ∙ tree-within p t.few_states t.few_handlers t.few_messages t.few_infos t.few_message_args (small-states p t)) in
     let tree : whole (built (cut_lines qs)) after ≡ Ok p =
-    ap (λ s. whole s after) (sym (built-erased qs no_parts) ∙ ap (λ ls. built (cut_lines ls)) given) ∙ built-protocol p (plain-states p t) after in
+    ap (λ s. whole s after) (sym (built-erased qs no_parts) ∙ ap (λ ls. built (cut_lines ls)) given)
+    ∙ built-protocol p (plain-states p t) after in
     rw (profile-again lines p qs _ t.profiles spelled given, forms-again p.profile lines qs spelled, nested, few) tree

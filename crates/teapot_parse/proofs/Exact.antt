@@ -1,5 +1,6 @@
 -- Where what a refusal says holds, it is the answer.
-use Rattle.std.proofs.Common.{◌≡◌, ℕ, ◌+◌, ◌<◌, List, [], ◌∷◌, ◌++◌, map, take, drop, Option, Some, None, Result, Ok, Err, refl, ap, sym, ◌∙◌, subst, append_assoc, inl, inr, arith}
+use Rattle.std.proofs.Common.{◌≡◌, ℕ, ◌+◌, ◌<◌, List, [], ◌∷◌, ◌++◌, map, take, drop, Option, Some, None, Result, Ok, Err, refl}
+use Rattle.std.proofs.Common.{ap, sym, ◌∙◌, subst, append_assoc, inl, inr, arith}
 use Rattle.std.proofs.lemmas.Bool.{cases_order}
 use Rattle.std.proofs.lemmas.List.{append-nil, take-append-drop, take-take}
 use Rattle.tw_base.specs.Answers.{◌>>=◌}
@@ -30,12 +31,15 @@ use Rattle.teapot_parse.proofs.Refusals.{has-form, no-form, line-same}
 
 -- ---- lines of no form
 
-no-form-read : (profile : ℕ) (ts : List Seen) (o : Option (Form Cut)) → form_of profile ts ≡ o → (HasForm profile ts → ⊥) → o ≡ None
+no-form-read : (profile : ℕ) (ts : List Seen) (o : Option (Form Cut)) → form_of profile ts ≡ o → (HasForm profile ts → ⊥) →
+    o ≡ None
 no-form-read profile ts None e none = refl
 no-form-read profile ts (Some g) e none = absurd (none (has-form profile ts g e))
 
-first-read : (profile : ℕ) (l : Line) (n : ℕ) (o : Option (Form Cut)) (rest : Result (List Placed) ParseError) → rest ≡ Err (BadLine n) → HasForm profile (map (seen profile) l.tokens)
-    → form_of profile (map (seen profile) l.tokens) ≡ o → (or_bad_line l.number o >>= λ g. rest >>= λ fs. Ok (record { line = l.number; form = g } ∷ fs)) ≡ Err (BadLine n)
+first-read : (profile : ℕ) (l : Line) (n : ℕ) (o : Option (Form Cut)) (rest : Result (List Placed) ParseError) →
+    rest ≡ Err (BadLine n) → HasForm profile (map (seen profile) l.tokens)
+    → form_of profile (map (seen profile) l.tokens) ≡ o →
+    (or_bad_line l.number o >>= λ g. rest >>= λ fs. Ok (record { line = l.number; form = g } ∷ fs)) ≡ Err (BadLine n)
 first-read profile l n (Some g) rest bad has e = ap (λ r. r >>= λ fs. Ok (record { line = l.number; form = g } ∷ fs)) bad
 first-read profile l n None rest bad has e = absurd (no-form profile (map (seen profile) l.tokens) e has)
 
@@ -44,15 +48,18 @@ unfolding forms_read
 bad-line-read profile [] n h = absurd h
 bad-line-read profile (l ∷ ls) n (inl (none, is)) =
     let unread = no-form-read profile (map (seen profile) l.tokens) (form_of profile (map (seen profile) l.tokens)) refl none in
-    ap (λ o. or_bad_line l.number o >>= λ g. forms_read profile ls >>= λ fs. Ok (record { line = l.number; form = g } ∷ fs)) unread ∙ ap (λ k. Err (BadLine k)) is
+    ap (λ o. or_bad_line l.number o >>= λ g. forms_read profile ls >>= λ fs. Ok (record { line = l.number; form = g } ∷ fs))
+    unread ∙ ap (λ k. Err (BadLine k)) is
 bad-line-read profile (l ∷ ls) n (inr (has, later)) =
-    first-read profile l n (form_of profile (map (seen profile) l.tokens)) (forms_read profile ls) (bad-line-read profile ls n later) has refl
+    first-read profile l n (form_of profile (map (seen profile) l.tokens)) (forms_read profile ls)
+    (bad-line-read profile ls n later) has refl
 
 -- ---- lines that do not nest
 
 front-goes : (ks : List Kind) (n : ℕ) → CanGoOn ks → CanGoOn (take n ks)
 front-goes ks n (more, nested) =
-    let all : take n ks ++ (drop n ks ++ more) ≡ ks ++ more = sym (append_assoc (take n ks) (drop n ks) more) ∙ ap (λ l. l ++ more) (take-append-drop n ks) in
+    let all : take n ks ++ (drop n ks ++ more) ≡ ks ++ more = sym (append_assoc (take n ks) (drop n ks) more)
+    ∙ ap (λ l. l ++ more) (take-append-drop n ks) in
     (drop n ks ++ more, subst IsNested (sym all) nested)
 
 nested-goes : (ks : List Kind) → IsNested ks → CanGoOn ks
@@ -60,16 +67,19 @@ nested-goes ks nested = ([], subst IsNested (sym (append-nil ks)) nested)
 
 -- a front that goes on is no longer than one that does not
 no-further : (ks : List Kind) (at other : ℕ) → at < other → (CanGoOn (take (at + 1) ks) → ⊥) → CanGoOn (take other ks) → ⊥
-no-further ks at other lt not goes = not (subst CanGoOn (take-take (at + 1) other ks (omega arith)) (front-goes (take other ks) (at + 1) goes))
+no-further ks at other lt not goes =
+    not (subst CanGoOn (take-take (at + 1) other ks (omega arith)) (front-goes (take other ks) (at + 1) goes))
 
-bad-same : (ks : List Kind) (at other : ℕ) → CanGoOn (take at ks) → (CanGoOn (take (at + 1) ks) → ⊥) → CanGoOn (take other ks) → (CanGoOn (take (other + 1) ks) → ⊥) → other ≡ at
+bad-same : (ks : List Kind) (at other : ℕ) → CanGoOn (take at ks) → (CanGoOn (take (at + 1) ks) → ⊥) →
+    CanGoOn (take other ks) → (CanGoOn (take (other + 1) ks) → ⊥) → other ≡ at
 bad-same ks at other goes not goes2 not2 = elim (cases_order at other) [
   | inl same ↦ sym same
   | inr (inl lt) ↦ absurd (no-further ks at other lt not goes2)
   | inr (inr gt) ↦ absurd (no-further ks other at gt not2 goes)
 ]
 
-is-bad : (ks : List Kind) (at : ℕ) → CanGoOn (take at ks) → (CanGoOn (take (at + 1) ks) → ⊥) → (j : Judged) → Judges ks j → j ≡ Bad at
+is-bad : (ks : List Kind) (at : ℕ) → CanGoOn (take at ks) → (CanGoOn (take (at + 1) ks) → ⊥) → (j : Judged) → Judges ks j →
+    j ≡ Bad at
 is-bad ks at goes not Nested h = absurd (not (front-goes ks (at + 1) (nested-goes ks h)))
 is-bad ks at goes not (Bad other) h = ap Bad (bad-same ks at other goes not h.0 h.1)
 is-bad ks at goes not Missing h = absurd (not (front-goes ks (at + 1) h.0))
@@ -81,20 +91,25 @@ is-missing ks goes not Missing h = refl
 
 -- ---- the whole
 
-nest-parsed : (lines : List Line) (after n : ℕ) (qs : Lines) (j : Judged) → SpellAll (profile_of lines) lines qs → judged (kinds_of qs) ≡ j → nests_if j (cut_lines qs) after ≡ Err (BadNest n) → parsed lines after ≡ Err (BadNest n)
+nest-parsed : (lines : List Line) (after n : ℕ) (qs : Lines) (j : Judged) → SpellAll (profile_of lines) lines qs →
+    judged (kinds_of qs) ≡ j → nests_if j (cut_lines qs) after ≡ Err (BadNest n) → parsed lines after ≡ Err (BadNest n)
 unfolding parsed
 nest-parsed lines after n qs j spell is bad =
     let here : judged (kinds (cut_lines qs)) ≡ j = ap judged (kinds-at qs) ∙ is in
     rw (forms-again (profile_of lines) lines qs spell, here, bad) refl
 
-bad-parsed : (lines : List Line) (after n : ℕ) (qs : Lines) → SpellAll (profile_of lines) lines qs → IsBadNest qs after n → parsed lines after ≡ Err (BadNest n)
+bad-parsed : (lines : List Line) (after n : ℕ) (qs : Lines) → SpellAll (profile_of lines) lines qs → IsBadNest qs after n →
+    parsed lines after ≡ Err (BadNest n)
 bad-parsed lines after n qs spell (inl (at, goes, not, is)) =
-    nest-parsed lines after n qs (Bad at) spell (is-bad (kinds_of qs) at goes not (judged (kinds_of qs)) (judges-is (kinds_of qs)))
+    nest-parsed lines after n qs (Bad at) spell (is-bad (kinds_of qs) at goes not (judged (kinds_of qs))
+    (judges-is (kinds_of qs)))
     (ap (λ k. Err (BadNest k)) (line-same qs at after ∙ sym is))
 bad-parsed lines after n qs spell (inr (goes, not, is)) =
-    nest-parsed lines after n qs Missing spell (is-missing (kinds_of qs) goes not (judged (kinds_of qs)) (judges-is (kinds_of qs))) (ap (λ k. Err (BadNest k)) (sym is))
+    nest-parsed lines after n qs Missing spell (is-missing (kinds_of qs) goes not (judged (kinds_of qs))
+    (judges-is (kinds_of qs))) (ap (λ k. Err (BadNest k)) (sym is))
 
-bad-line-parsed : (lines : List Line) (after n : ℕ) → IsFirstOfNoForm (profile_of lines) lines n → parsed lines after ≡ Err (BadLine n)
+bad-line-parsed : (lines : List Line) (after n : ℕ) → IsFirstOfNoForm (profile_of lines) lines n →
+    parsed lines after ≡ Err (BadLine n)
 unfolding parsed
 bad-line-parsed lines after n h = rw (bad-line-read (profile_of lines) lines n h) refl
 

@@ -1,5 +1,6 @@
 -- What is read is a tree of the grammar, and the lines give it.
-use Rattle.std.proofs.Common.{◌≡◌, ◌≤◌, ℕ, Bool, true, false, cond, List, [], ◌∷◌, length, map, Option, Some, None, Result, Ok, Err, IfSome, refl, ap, sym, ◌∙◌, subst, inl, inr}
+use Rattle.std.proofs.Common.{◌≡◌, ◌≤◌, ℕ, Bool, true, false, cond, List, [], ◌∷◌, length, map, Option, Some, None, Result, Ok}
+use Rattle.std.proofs.Common.{Err, IfSome, refl, ap, sym, ◌∙◌, subst, inl, inr}
 use Rattle.std.specs.Prelude.{◌⊎◌, ◌==◌, ◌&&◌, ◌||◌}
 use Rattle.std.specs.List.{flat_map, list_all}
 use Rattle.std.proofs.lemmas.Bool.{eqb-true}
@@ -41,7 +42,8 @@ use Rattle.teapot_parse.specs.Counting.{no_counts, counted, over, or_over, first
 use Rattle.teapot_parse.specs.Given.{SpellAll, erased, IsGiven, IsTextToken, AreTextLines}
 use Rattle.teapot_parse.specs.Laws.{Judges}
 use Rattle.teapot_parse.specs.Nesting.{judged, kinds}
-use Rattle.teapot_parse.specs.Parsing.{names_two, names_two_in, profile_of, forms_read, or_bad_line, nests_if, within_if, whole, parsed}
+use Rattle.teapot_parse.specs.Parsing.{names_two, names_two_in, profile_of, forms_read, or_bad_line, nests_if, within_if, whole}
+use Rattle.teapot_parse.specs.Parsing.{parsed}
 use Rattle.teapot_parse.specs.Shapes.{IsNested}
 use Rattle.teapot_parse.specs.Trees.{Lines, lines_of}
 use Rattle.teapot_parse.proofs.Again.{each-map, each-both, each-flat}
@@ -49,7 +51,8 @@ use Rattle.teapot_parse.proofs.Bounds.{all-shallow, IsFew, IsFewState, Limits, t
 use Rattle.teapot_parse.proofs.Builds.{cut_lines, IsPlain, IsPlainState, IsShallow, built-protocol}
 use Rattle.teapot_parse.proofs.Erasing.{erased-form, kind_at, kinds-at, built-erased}
 use Rattle.teapot_parse.proofs.Founds.{IsRead, IsReadState, tree-found}
-use Rattle.teapot_parse.proofs.Goods.{ExprsAt, WordsAt, NoLoop, Known, form_exprs, form_words, handlers-each, protocol-parts, flat-each, exprs-good, loops-good, names-good}
+use Rattle.teapot_parse.proofs.Goods.{ExprsAt, WordsAt, NoLoop, Known, form_exprs, form_words, handlers-each, protocol-parts}
+use Rattle.teapot_parse.proofs.Goods.{flat-each, exprs-good, loops-good, names-good}
 use Rattle.teapot_parse.proofs.Judging.{judges-is}
 use Rattle.teapot_parse.proofs.Spelt.{TokenGood, form-good}
 use Rattle.teapot_parse.proofs.Words.{no-for_each}
@@ -67,16 +70,23 @@ found-ok line None form e = absurd cc
 if-some : {A : Type 0} (o : Option A) (x : A) (P : A → Type 0) → IfSome o P → o ≡ Some x → P x
 if-some o x P h e = subst (λ z. IfSome z P) e h
 
-pub forms-found : (profile : ℕ) (ls : List Line) (fs : List Placed) → forms_read profile ls ≡ Ok fs → (qs : Lines) × SpellAll profile ls qs × (fs ≡ cut_lines qs)
+pub forms-found : (profile : ℕ) (ls : List Line) (fs : List Placed) → forms_read profile ls ≡ Ok fs →
+    (qs : Lines) × SpellAll profile ls qs × (fs ≡ cut_lines qs)
 unfolding forms_read
 forms-found profile [] fs e = ([], tt, sym cc)
 forms-found profile (l ∷ ls) fs e =
     let one = bind-ok (or_bad_line l.number (form_of profile (map (seen profile) l.tokens))) _ fs e in
     let more = bind-ok (forms_read profile ls) _ fs one.2 in
     let rest = forms-found profile ls more.0 more.1 in
-    let x = if-some _ one.0 (IsForm profile (map (seen profile) l.tokens)) (form-found profile (map (seen profile) l.tokens)) (found-ok l.number _ one.0 one.1) in
-    let same : fs ≡ record { line = l.number; form = one.0 } ∷ more.0 = sym cc in
-    ((l.number, x.0) ∷ rest.0, (refl, x.1, x.3, rest.1), same ∙ ap (λ g. record { line = l.number; form = g } ∷ more.0) (sym x.2) ∙ ap (λ ps. record { line = l.number; form = cut_form x.0 } ∷ ps) rest.2)
+    let x = if-some _ one.0 (IsForm profile (map (seen profile) l.tokens)) (form-found profile (map (seen profile) l.tokens))
+    (found-ok l.number _ one.0 one.1) in
+    let same : fs ≡ record { line = l.number; form = one.0 } ∷ more.0 = sym cc in (
+      (l.number, x.0) ∷ rest.0,
+      (refl, x.1, x.3, rest.1),
+      same
+          ∙ ap (λ g. record { line = l.number; form = g } ∷ more.0) (sym x.2)
+          ∙ ap (λ ps. record { line = l.number; form = cut_form x.0 } ∷ ps) rest.2,
+    )
 
 nested-ok : (j : Judged) (fs : List Placed) (after : ℕ) (u : Unit {0}) → nests_if j fs after ≡ Ok u → j ≡ Nested
 nested-ok Nested fs after u e = refl
@@ -92,7 +102,8 @@ nested-is ks e = subst (Judges ks) e (judges-is ks)
 
 -- ---- lines without the numbers of Begin, End and Else
 
-or-both : (o : Option Many) (line line' : ℕ) (r r' : Option (Many × ℕ)) → or_over o line r ≡ None → (r ≡ None → r' ≡ None) → or_over o line' r' ≡ None
+or-both : (o : Option Many) (line line' : ℕ) (r r' : Option (Many × ℕ)) → or_over o line r ≡ None → (r ≡ None → r' ≡ None) →
+    or_over o line' r' ≡ None
 or-both None line line' r r' e k = k e
 or-both (Some x) line line' r r' e k = absurd cc
 
@@ -101,11 +112,14 @@ unfolding first_over
 over-back [] c e = refl
 over-back (q ∷ qs) c e =
     let same = erased-form q.0 q.1 in
-    let at : or_over (over (counted c (cut_form q.1)) (cut_form q.1)) (erased q).0 (first_over (counted c (cut_form q.1)) (cut_lines (map erased qs))) ≡ None =
+    let at : or_over (over (counted c (cut_form q.1)) (cut_form q.1)) (erased q).0
+    (first_over (counted c (cut_form q.1)) (cut_lines (map erased qs))) ≡ None =
     or-both (over (counted c (cut_form q.1)) (cut_form q.1)) q.0 (erased q).0 _ _ e (over-back qs (counted c (cut_form q.1))) in
-    ap (λ x. or_over (over (counted c (cut_form x)) (cut_form x)) (erased q).0 (first_over (counted c (cut_form x)) (cut_lines (map erased qs)))) same ∙ at
+    ap (λ x. or_over (over (counted c (cut_form x)) (cut_form x)) (erased q).0
+    (first_over (counted c (cut_form x)) (cut_lines (map erased qs)))) same ∙ at
 
-each-erased : (P : Form Expr → Type 0) (qs : Lines) → Each (λ (q : ℕ × Form Expr). P q.1) qs → Each (λ (q : ℕ × Form Expr). P q.1) (map erased qs)
+each-erased : (P : Form Expr → Type 0) (qs : Lines) → Each (λ (q : ℕ × Form Expr). P q.1) qs →
+    Each (λ (q : ℕ × Form Expr). P q.1) (map erased qs)
 each-erased P [] h = tt
 each-erased P (q ∷ qs) (h, hs) = (subst P (sym (erased-form q.0 q.1)) h, each-erased P qs hs)
 
@@ -131,9 +145,11 @@ short (a ∷ b ∷ []) n e h = two (seen 1 a) (seen 1 b) h
     two (Marked m) y h = cc
 short (a ∷ b ∷ c ∷ ts) n e h = cc
 
-profile_two : (ts : List Token) (n : List ℕ) (p : ℕ) → names_two (map (seen 1) ts) ≡ true → map (seen 2) ts ≡ Key k.Protocol ∷ Named n ∷ spelled_profile p → (p ≡ 1) ⊎ (p ≡ 2) → p ≡ 2
+profile_two : (ts : List Token) (n : List ℕ) (p : ℕ) → names_two (map (seen 1) ts) ≡ true →
+    map (seen 2) ts ≡ Key k.Protocol ∷ Named n ∷ spelled_profile p → (p ≡ 1) ⊎ (p ≡ 2) → p ≡ 2
 profile_two ts n p h e (inr two) = two
-profile_two ts n p h e (inl one) = absurd (short ts n (subst (λ z. map (seen 2) ts ≡ Key k.Protocol ∷ Named n ∷ spelled_profile z) one e) h)
+profile_two ts n p h e (inl one) =
+    absurd (short ts n (subst (λ z. map (seen 2) ts ≡ Key k.Protocol ∷ Named n ∷ spelled_profile z) one e) h)
 
 profile_one : (p : ℕ) (b : Bool) → (1 == 2) ≡ b → ((p == 1) || (b && (p == 2))) ≡ true → p ≡ 1
 profile_one p b e h = elim (or-true (p == 1) (b && (p == 2)) h) [
@@ -150,11 +166,13 @@ either p b h = elim (or-true (p == 1) (b && (p == 2)) h) [
   | inr two ↦ inr (eqb-true p 2 (both b (p == 2) two).1)
 ]
 
-by_names : (b : Bool) (ts : List Token) (n : List ℕ) (p : ℕ) → names_two (map (seen 1) ts) ≡ b → fits_form (cond b 2 1) (f.Protocol n p) ≡ true → map (seen (cond b 2 1)) ts ≡ spelling (f.Protocol n p) → p ≡ cond b 2 1
+by_names : (b : Bool) (ts : List Token) (n : List ℕ) (p : ℕ) → names_two (map (seen 1) ts) ≡ b →
+    fits_form (cond b 2 1) (f.Protocol n p) ≡ true → map (seen (cond b 2 1)) ts ≡ spelling (f.Protocol n p) → p ≡ cond b 2 1
 by_names true ts n p h fits e = profile_two ts n p h e (either p true fits)
 by_names false ts n p h fits e = profile_one p false refl fits
 
-first-profile : (lines : List Line) (qs : Lines) (line : ℕ) (n : Name) (p : ℕ) (rest : Lines) → SpellAll (profile_of lines) lines qs → map erased qs ≡ (line, f.Protocol n p) ∷ rest → p ≡ profile_of lines
+first-profile : (lines : List Line) (qs : Lines) (line : ℕ) (n : Name) (p : ℕ) (rest : Lines) →
+    SpellAll (profile_of lines) lines qs → map erased qs ≡ (line, f.Protocol n p) ∷ rest → p ≡ profile_of lines
 first-profile [] [] line n p rest h e = absurd cc
 first-profile [] (q ∷ qs) line n p rest h e = absurd h
 first-profile (l ∷ ls) [] line n p rest h e = absurd h
@@ -175,13 +193,15 @@ token-good profile (what.Word w) h = word-good (keyword_of profile w) refl
 token-good profile (what.Number n) h = tt
 token-good profile (what.Mark m) h = tt
 
-tokens-good : (profile : ℕ) (ts : List Token) → Each (λ (t : Token). IsTextToken t.what) ts → Each (TokenGood (IsName profile)) (map (seen profile) ts)
+tokens-good : (profile : ℕ) (ts : List Token) → Each (λ (t : Token). IsTextToken t.what) ts →
+    Each (TokenGood (IsName profile)) (map (seen profile) ts)
 tokens-good profile [] h = tt
 tokens-good profile (t ∷ ts) (h, hs) = (token-good profile t.what h, tokens-good profile ts hs)
 
 -- what a line's tokens say of its form
 abbrev LineGood : ℕ → Form Expr → Type 0
-LineGood profile x = (Each (IsName profile) (form_words x) × Each (λ e. Each (IsName profile) (names_in e)) (form_exprs x)) × Each (λ e. fits e ≡ true) (form_exprs x)
+LineGood profile x = (Each (IsName profile) (form_words x) × Each (λ e. Each (IsName profile) (names_in e)) (form_exprs x))
+    × Each (λ e. fits e ≡ true) (form_exprs x)
 
 all-fits : (xs : List Expr) → list_all fits xs ≡ true → Each (λ e. fits e ≡ true) xs
 all-fits [] h = tt
@@ -196,12 +216,18 @@ form-fits profile (f.Suspend l n xs p) h = all-fits xs h
 form-fits profile (f.ForEach n e) h = (h, tt)
 form-fits profile _ h = tt
 
-lines-good : (profile : ℕ) (ls : List Line) (qs : Lines) → AreTextLines ls → SpellAll profile ls qs → Each (λ (q : ℕ × Form Expr). LineGood profile q.1) qs
+lines-good : (profile : ℕ) (ls : List Line) (qs : Lines) → AreTextLines ls → SpellAll profile ls qs →
+    Each (λ (q : ℕ × Form Expr). LineGood profile q.1) qs
 lines-good profile [] [] a h = tt
 lines-good profile [] (q ∷ qs) a h = absurd h
 lines-good profile (l ∷ ls) [] a h = absurd h
-lines-good profile (l ∷ ls) (q ∷ qs) (text, texts) (number, fits, tokens, more) =
-    ((form-good (IsName profile) q.1 (subst (Each (TokenGood (IsName profile))) tokens (tokens-good profile l.tokens text)), form-fits profile q.1 fits), lines-good profile ls qs texts more)
+lines-good profile (l ∷ ls) (q ∷ qs) (text, texts) (number, fits, tokens, more) = (
+  (
+    form-good (IsName profile) q.1 (subst (Each (TokenGood (IsName profile))) tokens (tokens-good profile l.tokens text)),
+    form-fits profile q.1 fits,
+  ),
+  lines-good profile ls qs texts more,
+)
 
 first-key : (ts : List Token) (rest : List Seen) → map (seen 1) ts ≡ Key k.ForEach ∷ rest → ⊥
 first-key [] rest e = cc
@@ -216,11 +242,15 @@ first-key (t ∷ ts) rest e = word t.what cc
     word (what.Number n) d = cc
     word (what.Mark m) d = cc
 
-no-loops : (ls : List Line) (qs : Lines) → SpellAll 1 ls qs → Each (λ (q : ℕ × Form Expr). (n : Name) (e : Expr) → q.1 ≡ f.ForEach n e → ⊥) qs
+no-loops : (ls : List Line) (qs : Lines) → SpellAll 1 ls qs →
+    Each (λ (q : ℕ × Form Expr). (n : Name) (e : Expr) → q.1 ≡ f.ForEach n e → ⊥) qs
 no-loops [] [] h = tt
 no-loops [] (q ∷ qs) h = absurd h
 no-loops (l ∷ ls) [] h = absurd h
-no-loops (l ∷ ls) (q ∷ qs) (number, fits, tokens, more) = (λ n e is. first-key l.tokens _ (tokens ∙ ap spelling is), no-loops ls qs more)
+no-loops (l ∷ ls) (q ∷ qs) (number, fits, tokens, more) = (
+  λ n e is. first-key l.tokens _ (tokens ∙ ap spelling is),
+  no-loops ls qs more,
+)
 
 -- ---- the whole
 
@@ -235,27 +265,39 @@ default-known : (h : Handler) → NoDefaultArgs h → h.on ≡ t.Default → h.a
 default-known h n e = subst (λ on. NoArgsOf on h.args) e n
 
 -- a tree whose lines are within the limits and good
-tree-of-lines : (p : Protocol) (profile : ℕ) → p.profile ≡ profile → (profile ≡ 1) ⊎ (profile ≡ 2) → Each IsReadState p.states → Limits p → Each (ExprsAt IsShallow) (lines_of p) → Each (λ (q : ℕ × Form Expr). LineGood profile q.1) (lines_of p)
+tree-of-lines : (p : Protocol) (profile : ℕ) → p.profile ≡ profile → (profile ≡ 1) ⊎ (profile ≡ 2) →
+    Each IsReadState p.states → Limits p → Each (ExprsAt IsShallow) (lines_of p) →
+    Each (λ (q : ℕ × Form Expr). LineGood profile q.1) (lines_of p)
     → (profile ≡ 1 → Each NoLoop (lines_of p)) → IsTree p
 tree-of-lines p profile same which read limits shallow good no_loop =
     let ss = p.states in
     let N = IsName profile in
-    let reads : Each (λ (s : State). Each IsRead s.handlers) ss = each-map IsReadState (λ (s : State). Each IsRead s.handlers) (λ s x. x.1) ss read in
-    let known : Each (λ (s : State). Each Known s.handlers) ss = each-map (λ (s : State). Each IsRead s.handlers) (λ (s : State). Each Known s.handlers) (λ s x. each-map IsRead Known (λ h y. (default-known h y.0, y.1)) s.handlers x) ss reads in
+    let reads : Each (λ (s : State). Each IsRead s.handlers) ss =
+    each-map IsReadState (λ (s : State). Each IsRead s.handlers) (λ s x. x.1) ss read in
+    let known : Each (λ (s : State). Each Known s.handlers) ss =
+    each-map (λ (s : State). Each IsRead s.handlers) (λ (s : State). Each Known s.handlers)
+    (λ s x. each-map IsRead Known (λ h y. (default-known h y.0, y.1)) s.handlers x) ss reads in
     let all = all-handlers IsRead ss reads in
     let noeach = each-map IsRead (λ (h : Handler). eaches (body_of h.body) ≡ 0) (λ h x. x.1) (hs_of ss) all in
     let words = each-map (λ (q : ℕ × Form Expr). LineGood profile q.1) (WordsAt N) (λ q x. x.0.0) (lines_of p) good in
-    let names = each-map (λ (q : ℕ × Form Expr). LineGood profile q.1) (ExprsAt (λ e. Each N (names_in e))) (λ q x. x.0.1) (lines_of p) good in
-    let numbers = each-map (λ (q : ℕ × Form Expr). LineGood profile q.1) (ExprsAt (λ e. fits e ≡ true)) (λ q x. x.1) (lines_of p) good in
-    let exprs : (Q : Expr → Type 0) → Each (ExprsAt Q) (lines_of p) → Each (λ (h : Handler). Each Q (exprs_of h)) (hs_of ss) = λ Q h. handlers-each (ExprsAt Q) (λ (x : Handler). Each Q (exprs_of x)) (λ (x : Handler). eaches (body_of x.body) ≡ 0) (λ x n ls. exprs-good Q x n ls) ss noeach (protocol-parts (ExprsAt Q) p h).4 in
-    let few = all-handlers IsFew ss (each-map IsFewState (λ (s : State). Each IsFew s.handlers) (λ s x. x.1) ss limits.each_state) in
+    let names = each-map (λ (q : ℕ × Form Expr). LineGood profile q.1) (ExprsAt (λ e. Each N (names_in e))) (λ q x. x.0.1)
+    (lines_of p) good in
+    let numbers = each-map (λ (q : ℕ × Form Expr). LineGood profile q.1) (ExprsAt (λ e. fits e ≡ true)) (λ q x. x.1)
+    (lines_of p) good in
+    let exprs : (Q : Expr → Type 0) → Each (ExprsAt Q) (lines_of p) → Each (λ (h : Handler). Each Q (exprs_of h)) (hs_of ss) =
+    λ Q h. handlers-each (ExprsAt Q) (λ (x : Handler). Each Q (exprs_of x)) (λ (x : Handler). eaches (body_of x.body) ≡ 0)
+    (λ x n ls. exprs-good Q x n ls) ss noeach (protocol-parts (ExprsAt Q) p h).4 in
+    let few =
+    all-handlers IsFew ss (each-map IsFewState (λ (s : State). Each IsFew s.handlers) (λ s x. x.1) ss limits.each_state) in
     record {
       profiles = subst (λ z. (z ≡ 1) ⊎ (z ≡ 2)) (sym same) which;
       names = subst (λ z. Each (IsName z) (names_of p)) (sym same) (names-good N p known words names);
       numbers = exprs (λ e. fits e ≡ true) numbers;
       default_args = each-map IsRead NoDefaultArgs (λ h x. x.0) (hs_of ss) all;
       no_each = noeach;
-      no_loop = λ one. handlers-each NoLoop (λ (x : Handler). loops (body_of x.body) ≡ 0) (λ (x : Handler). eaches (body_of x.body) ≡ 0) (λ x n ls. loops-good x n ls) ss noeach (protocol-parts NoLoop p (no_loop (sym same ∙ one))).4;
+      no_loop = λ one. handlers-each NoLoop (λ (x : Handler). loops (body_of x.body) ≡ 0)
+          (λ (x : Handler). eaches (body_of x.body) ≡ 0) (λ x n ls. loops-good x n ls) ss noeach
+          (protocol-parts NoLoop p (no_loop (sym same ∙ one))).4;
       param_lines = each-map IsReadState OnOneLine (λ s x. x.0) ss read;
       few_states = limits.states;
       few_messages = limits.messages;
@@ -269,12 +311,16 @@ tree-of-lines p profile same which read limits shallow good no_loop =
       few_loops = each-map IsFew (λ (h : Handler). loops (body_of h.body) ≤ 4) (λ h x. x.1.1) (hs_of ss) few;
     }
 
-pub plains : (ss : List State) → Each IsReadState ss → Each (λ (h : Handler). Each IsShallow (exprs_of h)) (hs_of ss) → Each IsPlainState ss
+pub plains : (ss : List State) → Each IsReadState ss → Each (λ (h : Handler). Each IsShallow (exprs_of h)) (hs_of ss) →
+    Each IsPlainState ss
 plains ss read shallow =
-    let reads : Each (λ (s : State). Each IsRead s.handlers) ss = each-map IsReadState (λ (s : State). Each IsRead s.handlers) (λ s x. x.1) ss read in
+    let reads : Each (λ (s : State). Each IsRead s.handlers) ss =
+    each-map IsReadState (λ (s : State). Each IsRead s.handlers) (λ s x. x.1) ss read in
     let two = each-both IsRead (λ (h : Handler). Each IsShallow (exprs_of h)) (hs_of ss) (all-handlers IsRead ss reads) shallow in
-    let all = each-map (λ (h : Handler). IsRead h × Each IsShallow (exprs_of h)) IsPlain (λ h x. (x.0.0, x.0.1, x.1)) (hs_of ss) two in
-    each-both OnOneLine (λ (s : State). Each IsPlain s.handlers) ss (each-map IsReadState OnOneLine (λ s x. x.0) ss read) (each-flat IsPlain ss all)
+    let all = each-map (λ (h : Handler). IsRead h × Each IsShallow (exprs_of h)) IsPlain (λ h x. (x.0.0, x.0.1, x.1))
+    (hs_of ss) two in
+    each-both OnOneLine (λ (s : State). Each IsPlain s.handlers) ss (each-map IsReadState OnOneLine (λ s x. x.0) ss read)
+    (each-flat IsPlain ss all)
 
 ok-same : (p q : Protocol) (r : Result Protocol ParseError) → r ≡ Ok p → r ≡ Ok q → p ≡ q
 ok-same p q r a b = cc
@@ -286,7 +332,8 @@ profile-is : (b : Bool) → (profile_if b ≡ 1) ⊎ (profile_if b ≡ 2)
 profile-is true = inr refl
 profile-is false = inl refl
 
-pub parsed-found : (lines : List Line) (p : Protocol) (after : ℕ) → AreTextLines lines → parsed lines after ≡ Ok p → IsTree p × IsGiven lines p
+pub parsed-found : (lines : List Line) (p : Protocol) (after : ℕ) → AreTextLines lines → parsed lines after ≡ Ok p →
+    IsTree p × IsGiven lines p
 unfolding parsed
 parsed-found lines p after text e =
     let prof = profile_of lines in
@@ -295,21 +342,34 @@ parsed-found lines p after text e =
     let s3 = bind-ok (within_if (first_over no_counts s1.0)) _ p s2.2 in
     let forms = forms-found prof lines s1.0 s1.1 in
     let qs = forms.0 in
-    let nested : IsNested (map kind_at qs) = subst IsNested (ap kinds forms.2 ∙ kinds-at qs) (nested-is (kinds s1.0) (nested-ok (judged (kinds s1.0)) s1.0 after s2.0 s2.1)) in
+    let nested : IsNested (map kind_at qs) = subst IsNested (ap kinds forms.2 ∙ kinds-at qs)
+    (nested-is (kinds s1.0) (nested-ok (judged (kinds s1.0)) s1.0 after s2.0 s2.1)) in
     let tree = tree-found qs nested in
     let q = tree.0 in
     let given : map erased qs ≡ lines_of q = tree.1 in
-    let none : first_over no_counts (cut_lines qs) ≡ None = ap (first_over no_counts) (sym forms.2) ∙ within-ok (first_over no_counts s1.0) s3.0 s3.1 in
-    let none_of : first_over no_counts (cut_lines (lines_of q)) ≡ None = ap (λ ls. first_over no_counts (cut_lines ls)) (sym given) ∙ over-back qs no_counts none in
+    let none : first_over no_counts (cut_lines qs) ≡ None = ap (first_over no_counts) (sym forms.2)
+    ∙ within-ok (first_over no_counts s1.0) s3.0 s3.1 in
+    let none_of : first_over no_counts (cut_lines (lines_of q)) ≡ None =
+    ap (λ ls. first_over no_counts (cut_lines ls)) (sym given) ∙ over-back qs no_counts none in
     let shallow = all-shallow (lines_of q) no_counts none_of in
-    let reads : Each (λ (s : State). Each IsRead s.handlers) q.states = each-map IsReadState (λ (s : State). Each IsRead s.handlers) (λ s x. x.1) q.states tree.2 in
+    let reads : Each (λ (s : State). Each IsRead s.handlers) q.states =
+    each-map IsReadState (λ (s : State). Each IsRead s.handlers) (λ s x. x.1) q.states tree.2 in
     let noeach : Each (λ (s : State). Each (λ (h : Handler). eaches (body_of h.body) ≡ 0) s.handlers) q.states =
-    each-map (λ (s : State). Each IsRead s.handlers) (λ (s : State). Each (λ (h : Handler). eaches (body_of h.body) ≡ 0) s.handlers) (λ s x. each-map IsRead (λ (h : Handler). eaches (body_of h.body) ≡ 0) (λ h y. y.1) s.handlers x) q.states reads in
+    each-map (λ (s : State). Each IsRead s.handlers) (λ (s : State). Each
+    (λ (h : Handler). eaches (body_of h.body) ≡ 0) s.handlers)
+    (λ s x. each-map IsRead (λ (h : Handler). eaches (body_of h.body) ≡ 0) (λ h y. y.1) s.handlers x) q.states reads in
     let profile : q.profile ≡ prof = first-profile lines qs q.line q.name q.profile _ forms.1 given in
-    let good : Each (λ (x : ℕ × Form Expr). LineGood prof x.1) (lines_of q) = subst (Each (λ (x : ℕ × Form Expr). LineGood prof x.1)) given (each-erased (LineGood prof) qs (lines-good prof lines qs text forms.1)) in
-    let no_loop : prof ≡ 1 → Each NoLoop (lines_of q) = λ one. subst (Each NoLoop) given (each-erased (λ x. (n : Name) (v : Expr) → x ≡ f.ForEach n v → ⊥) qs (no-loops lines qs (subst (λ z. SpellAll z lines qs) one forms.1))) in
-    let is_tree : IsTree q = tree-of-lines q prof profile (profile-is (names_two_in lines)) tree.2 (tree-bound q noeach none_of) shallow good no_loop in
-    let same : built s1.0 ≡ built (cut_lines (lines_of q)) = ap built forms.2 ∙ sym (built-erased qs no_parts) ∙ ap (λ ls. built (cut_lines ls)) given in
-    let all : whole (built s1.0) after ≡ Ok q = ap (λ s. whole s after) same ∙ built-protocol q (plains q.states tree.2 is_tree.shallow) after in
+    let good : Each (λ (x : ℕ × Form Expr). LineGood prof x.1) (lines_of q) =
+    subst (Each (λ (x : ℕ × Form Expr). LineGood prof x.1)) given
+    (each-erased (LineGood prof) qs (lines-good prof lines qs text forms.1)) in
+    let no_loop : prof ≡ 1 → Each NoLoop (lines_of q) = λ one. subst (Each NoLoop) given
+    (each-erased (λ x. (n : Name) (v : Expr) → x ≡ f.ForEach n v → ⊥) qs
+    (no-loops lines qs (subst (λ z. SpellAll z lines qs) one forms.1))) in
+    let is_tree : IsTree q = tree-of-lines q prof profile (profile-is (names_two_in lines)) tree.2
+    (tree-bound q noeach none_of) shallow good no_loop in
+    let same : built s1.0 ≡ built (cut_lines (lines_of q)) = ap built forms.2 ∙ sym (built-erased qs no_parts)
+    ∙ ap (λ ls. built (cut_lines ls)) given in
+    let all : whole (built s1.0) after ≡ Ok q = ap (λ s. whole s after) same
+    ∙ built-protocol q (plains q.states tree.2 is_tree.shallow) after in
     let is_same : q ≡ p = ok-same q p (whole (built s1.0) after) all s3.2 in
     subst (λ z. IsTree z × IsGiven lines z) is_same (is_tree, (qs, subst (λ z. SpellAll z lines qs) (sym profile) forms.1, given))

@@ -8,7 +8,8 @@ use Rattle.teapot_parse.specs.declared.judge.Block.TheVariants.{First, Other}
 use Rattle.teapot_parse.specs.declared.judge.Place.{Place}
 use Rattle.teapot_parse.specs.declared.judge.Place.TheVariants as p
 use Rattle.teapot_parse.specs.Nesting.{At, next_of, body_next, closed_by, is_end}
-use Rattle.teapot_parse.specs.Shapes.{Body, done, plain, branch, branches, loop, Handlers, States, handler, state, times, of_body, of_handlers, of_states, IsNested, CanGoOn}
+use Rattle.teapot_parse.specs.Shapes.{Body, done, plain, branch, branches, loop, Handlers, States, handler, state, times}
+use Rattle.teapot_parse.specs.Shapes.{of_body, of_handlers, of_states, IsNested, CanGoOn}
 
 -- further states, handlers or statements may follow
 abbrev InStates : List Kind → Type 0
@@ -30,7 +31,8 @@ InHandlers ks = (hs : Handlers) → InStates (ks ++ (of_handlers hs ++ k.End ∷
 -- the innermost block may go on as any body, and then the blocks around it
 abbrev Open : List Block → List Kind → Type 0
 Open [] ks = (b : Body) → InHandlers (ks ++ (of_body b ++ k.End ∷ []))
-Open (First ∷ bs) ks = (b : Body) → Open bs (ks ++ (of_body b ++ k.End ∷ [])) × ((c : Body) → Open bs (ks ++ (of_body b ++ k.End ∷ k.Else ∷ k.Begin ∷ []) ++ (of_body c ++ k.End ∷ [])))
+Open (First ∷ bs) ks = (b : Body) → Open bs (ks ++ (of_body b ++ k.End ∷ []))
+    × ((c : Body) → Open bs (ks ++ (of_body b ++ k.End ∷ k.Else ∷ k.Begin ∷ []) ++ (of_body c ++ k.End ∷ [])))
 Open (Other ∷ bs) ks = (b : Body) → Open bs (ks ++ (of_body b ++ k.End ∷ []))
 
 abbrev InLocals : List Kind → Type 0
@@ -50,7 +52,8 @@ Stands bs p.Body ks = Open bs ks
 Stands bs p.BlockBegin ks = Open bs (ks ++ k.Begin ∷ [])
 Stands bs p.AfterIf ks = Open bs ks × Open (Other ∷ bs) (ks ++ k.Else ∷ k.Begin ∷ [])
 
-shift : (bs : List Block) (from to : List Kind) (f : Body → Body) → ((b : Body) (rest : List Kind) → from ++ (of_body (f b) ++ rest) ≡ to ++ (of_body b ++ rest)) → Open bs from → Open bs to
+shift : (bs : List Block) (from to : List Kind) (f : Body → Body) →
+    ((b : Body) (rest : List Kind) → from ++ (of_body (f b) ++ rest) ≡ to ++ (of_body b ++ rest)) → Open bs from → Open bs to
 shift [] from to f e h = λ b. subst InHandlers (e b (k.End ∷ [])) (h (f b))
 shift (First ∷ bs) from to f e h = λ b. (
   subst (Open bs) (e b (k.End ∷ [])) (h (f b)).0,
@@ -63,21 +66,28 @@ Adds ks kind o = IfSome o (λ s. Stands s.0 s.1 (ks ++ kind ∷ []))
 
 end_adds : (bs : List Block) (ks : List Kind) → Open bs ks → Adds ks k.End (Some (closed_by bs))
 end_adds [] ks h = (refl, h done)
-end_adds (First ∷ bs) ks h = ((h done).0, λ c. subst (λ z. Open bs (z ++ (of_body c ++ k.End ∷ []))) (sym (append_assoc ks (k.End ∷ []) (k.Else ∷ k.Begin ∷ []))) ((h done).1 c))
+end_adds (First ∷ bs) ks h = (
+  (h done).0,
+  λ c. subst (λ z. Open bs (z ++ (of_body c ++ k.End ∷ [])))
+      (sym (append_assoc ks (k.End ∷ []) (k.Else ∷ k.Begin ∷ []))) ((h done).1 c),
+)
 end_adds (Other ∷ bs) ks h = h done
 
 body_adds : (bs : List Block) (kind : Kind) (ks : List Kind) → Open bs ks → Adds ks kind (body_next bs kind)
 body_adds bs k.Plain ks h = shift bs ks (ks ++ k.Plain ∷ []) plain (λ b rest. simp append_assoc) h
 body_adds bs k.If ks h = λ x. (
   shift bs ks (ks ++ k.If ∷ [] ++ k.Begin ∷ [] ++ (of_body x ++ k.End ∷ [])) (branch x) (λ b rest. simp append_assoc) h,
-  λ c. shift bs ks (ks ++ k.If ∷ [] ++ k.Begin ∷ [] ++ (of_body x ++ k.End ∷ k.Else ∷ k.Begin ∷ []) ++ (of_body c ++ k.End ∷ [])) (branches x c) (λ b rest. simp append_assoc) h,
+  λ c. shift bs ks (ks ++ k.If ∷ [] ++ k.Begin ∷ [] ++ (of_body x ++ k.End ∷ k.Else ∷ k.Begin ∷ [])
+      ++ (of_body c ++ k.End ∷ [])) (branches x c) (λ b rest. simp append_assoc) h,
 )
-body_adds bs k.ForEach ks h = λ x. shift bs ks (ks ++ k.ForEach ∷ [] ++ k.Begin ∷ [] ++ (of_body x ++ k.End ∷ [])) (loop x) (λ b rest. simp append_assoc) h
+body_adds bs k.ForEach ks h = λ x. shift bs ks (ks ++ k.ForEach ∷ [] ++ k.Begin ∷ [] ++ (of_body x ++ k.End ∷ [])) (loop x)
+    (λ b rest. simp append_assoc) h
 body_adds bs k.End ks h = end_adds bs ks h
 body_adds bs _ ks h = tt
 
 locals_add : (bs : List Block) (kind : Kind) (ks : List Kind) → Stands bs p.Locals ks → Adds ks kind (body_next bs kind)
-locals_add bs kind ks h = subst (λ c. Adds ks kind (body_next c kind)) (sym h.0) (body_adds [] kind ks (subst (Open []) (append-nil ks) (h.1 0)))
+locals_add bs kind ks h = subst (λ c. Adds ks kind (body_next c kind)) (sym h.0)
+    (body_adds [] kind ks (subst (Open []) (append-nil ks) (h.1 0)))
 
 state_begins : (ks : List Kind) → InStates ks → InHandlers (ks ++ k.State ∷ [] ++ k.Begin ∷ [])
 state_begins ks h hs ss = subst IsNested (simp append_assoc) (h (state hs ss))
@@ -103,7 +113,8 @@ one_message ks h n = subst InInfos (sym (append_assoc ks (k.Message ∷ []) (tim
 first_line : (ks : List Kind) → ks ≡ [] → InMessages (ks ++ k.Protocol ∷ [])
 first_line ks e m i n ss = (record { messages = m; infos = i; starts = n; states = ss }, rw e (simp append_assoc))
 
-adds : (bs : List Block) (place : Place) (kind : Kind) (ks : List Kind) → Stands bs place ks → Adds ks kind (next_of bs place kind)
+adds : (bs : List Block) (place : Place) (kind : Kind) (ks : List Kind) → Stands bs place ks →
+    Adds ks kind (next_of bs place kind)
 adds bs p.Start k.Protocol ks h = (h.0, first_line ks h.1)
 adds bs p.Start _ ks h = tt
 adds bs p.Messages k.Message ks h = (h.0, one_message ks h.1)
@@ -135,7 +146,8 @@ adds bs p.BlockBegin _ ks h = tt
 adds bs p.AfterIf k.Else ks h = subst (Open (Other ∷ bs)) (sym (append_assoc ks (k.Else ∷ []) (k.Begin ∷ []))) h.1
 adds bs p.AfterIf kind ks h = body_adds bs kind ks h.0
 
-pub stands-adds : (bs : List Block) (place : Place) (kind : Kind) (ks : List Kind) → Stands bs place ks → IfSome (next_of bs place kind) (λ s. Stands s.0 s.1 (ks ++ kind ∷ []))
+pub stands-adds : (bs : List Block) (place : Place) (kind : Kind) (ks : List Kind) → Stands bs place ks →
+    IfSome (next_of bs place kind) (λ s. Stands s.0 s.1 (ks ++ kind ∷ []))
 stands-adds bs place kind ks h = adds bs place kind ks h
 
 -- ---- the lines can go on

@@ -26,7 +26,8 @@ record IsFirstFrom (c : Counts) (qs : Lines) (what : Many) (n : ℕ) : Type 0 wh
 
 -- the first of one line more, which passes none
 earlier-more : (c : Counts) (q : ℕ × Form Expr) (before : Lines) → passed_from c [] q ≡ None
-    → ((front : Lines) (r : ℕ × Form Expr) (more : Lines) → before ≡ front ++ r ∷ more → passed_from (counts_with c q) front r ≡ None)
+    → ((front : Lines) (r : ℕ × Form Expr) (more : Lines) → before ≡ front ++ r ∷ more →
+    passed_from (counts_with c q) front r ≡ None)
     → (front : Lines) (r : ℕ × Form Expr) (more : Lines) → q ∷ before ≡ front ++ r ∷ more → passed_from c front r ≡ None
 earlier-more c q before here later [] r more e =
     let same : q ≡ r = cc in
@@ -36,7 +37,8 @@ earlier-more c q before here later (x ∷ front) r more e =
     let rest : before ≡ front ++ r ∷ more = cc in
     subst (λ (x : ℕ × Form Expr). passed_from (counts_with c x) front r ≡ None) same (later front r more rest)
 
-none-before : (c : Counts) (front : Lines) (r : ℕ × Form Expr) (more : Lines) → [] ≡ front ++ r ∷ more → passed_from c front r ≡ None
+none-before : (c : Counts) (front : Lines) (r : ℕ × Form Expr) (more : Lines) → [] ≡ front ++ r ∷ more →
+    passed_from c front r ≡ None
 none-before c [] r more e = absurd cc
 none-before c (x ∷ front) r more e = absurd cc
 
@@ -45,8 +47,10 @@ over-same a b e =
     let same : a ≡ b = cc in
     (ap (λ (x : Many × ℕ). x.0) same, ap (λ (x : Many × ℕ). x.1) same)
 
-step-first : (c : Counts) (q : ℕ × Form Expr) (qs : Lines) (o : Option Many) (rest : Option (Many × ℕ)) (what : Many) (n : ℕ) → passed_from c [] q ≡ o
-    → (rest ≡ Some (what, n) → IsFirstFrom (counts_with c q) qs what n) → or_over o q.0 rest ≡ Some (what, n) → IsFirstFrom c (q ∷ qs) what n
+step-first : (c : Counts) (q : ℕ × Form Expr) (qs : Lines) (o : Option Many) (rest : Option (Many × ℕ)) (what : Many) (n : ℕ) →
+    passed_from c [] q ≡ o
+    → (rest ≡ Some (what, n) → IsFirstFrom (counts_with c q) qs what n) → or_over o q.0 rest ≡ Some (what, n) →
+    IsFirstFrom c (q ∷ qs) what n
 step-first c q qs (Some w) rest what n here later e =
     let same = over-same (w, q.0) (what, n) e in
     record {
@@ -70,25 +74,42 @@ step-first c q qs None rest what n here later e =
       earlier = earlier-more c q f.before here f.earlier;
     }
 
-first-from : (c : Counts) (qs : Lines) (what : Many) (n : ℕ) → first_over c (cut_lines qs) ≡ Some (what, n) → IsFirstFrom c qs what n
+first-from : (c : Counts) (qs : Lines) (what : Many) (n : ℕ) → first_over c (cut_lines qs) ≡ Some (what, n) →
+    IsFirstFrom c qs what n
 unfolding first_over
 first-from c [] what n e = absurd cc
-first-from c (q ∷ qs) what n e = step-first c q qs (passed_from c [] q) (first_over (counts_with c q) (cut_lines qs)) what n refl (first-from (counts_with c q) qs what n) e
+first-from c (q ∷ qs) what n e = step-first c q qs (passed_from c [] q)
+    (first_over (counts_with c q) (cut_lines qs)) what n refl (first-from (counts_with c q) qs what n) e
 
-pub first_over-first : (qs : Lines) (what : Many) (n : ℕ) → first_over no_counts (cut_lines qs) ≡ Some (what, n) → IsFirstOver qs what n
+pub first_over-first : (qs : Lines) (what : Many) (n : ℕ) → first_over no_counts (cut_lines qs) ≡ Some (what, n) →
+    IsFirstOver qs what n
 first_over-first qs what n e =
     let f = first-from no_counts qs what n e in
-    record { before = f.before; line = f.line; behind = f.behind; whole = f.whole; number = f.number; passes = f.passes; earlier = f.earlier }
+    record {
+      before = f.before;
+      line = f.line;
+      behind = f.behind;
+      whole = f.whole;
+      number = f.number;
+      passes = f.passes;
+      earlier = f.earlier;
+    }
 
-first-back : (c : Counts) (before : Lines) (line : ℕ × Form Expr) (behind : Lines) (what : Many) → passed_from c before line ≡ Some what
-    → ((front : Lines) (q : ℕ × Form Expr) (more : Lines) → before ≡ front ++ q ∷ more → passed_from c front q ≡ None) → first_over c (cut_lines (before ++ line ∷ behind)) ≡ Some (what, line.0)
+first-back : (c : Counts) (before : Lines) (line : ℕ × Form Expr) (behind : Lines) (what : Many) →
+    passed_from c before line ≡ Some what
+    → ((front : Lines) (q : ℕ × Form Expr) (more : Lines) → before ≡ front ++ q ∷ more → passed_from c front q ≡ None) →
+    first_over c (cut_lines (before ++ line ∷ behind)) ≡ Some (what, line.0)
 unfolding first_over
-first-back c [] line behind what passes earlier = ap (λ o. or_over o line.0 (first_over (counts_with c line) (cut_lines behind))) passes
+first-back c [] line behind what passes earlier =
+    ap (λ o. or_over o line.0 (first_over (counts_with c line) (cut_lines behind))) passes
 first-back c (q ∷ before) line behind what passes earlier =
     ap (λ o. or_over o q.0 (first_over (counts_with c q) (cut_lines (before ++ line ∷ behind)))) (earlier [] q before refl)
-    ∙ first-back (counts_with c q) before line behind what passes (λ front r more e. earlier (q ∷ front) r more (ap (λ (l : Lines). q ∷ l) e))
+    ∙ first-back (counts_with c q) before line behind what passes
+    (λ front r more e. earlier (q ∷ front) r more (ap (λ (l : Lines). q ∷ l) e))
 
-pub first_over-back : (qs : Lines) (what : Many) (n : ℕ) → IsFirstOver qs what n → first_over no_counts (cut_lines qs) ≡ Some (what, n)
+pub first_over-back : (qs : Lines) (what : Many) (n : ℕ) → IsFirstOver qs what n →
+    first_over no_counts (cut_lines qs) ≡ Some (what, n)
 first_over-back qs what n f =
-    ap (λ (l : Lines). first_over no_counts (cut_lines l)) f.whole ∙ first-back no_counts f.before f.line f.behind what f.passes f.earlier
+    ap (λ (l : Lines). first_over no_counts (cut_lines l)) f.whole
+    ∙ first-back no_counts f.before f.line f.behind what f.passes f.earlier
     ∙ ap (λ (k : ℕ). Some (what, k)) f.number

@@ -54,7 +54,8 @@ module _ (N : Name → Type 0) where
   abbrev whole_of : Expr-F Part → Expr-F Expr
   whole_of = map-Expr Part Expr (λ p. p.0)
 
-  level : (y : Expr-F Part) → Each G (spelled_step (map-Expr Expr (List Seen) spelled (whole_of y))) → Each N (names_step (map-Expr Expr (List Name) names_in (whole_of y)))
+  level : (y : Expr-F Part) → Each G (spelled_step (map-Expr Expr (List Seen) spelled (whole_of y))) →
+      Each N (names_step (map-Expr Expr (List Name) names_in (whole_of y)))
   level (Expr-F.Number n) h = tt
   level Expr-F.True h = tt
   level Expr-F.False h = tt
@@ -76,13 +77,17 @@ module _ (N : Name → Type 0) where
   pub expr-names : (e : Expr) → Each G (spelled e) → Each N (names_in e)
   expr-names = ind-Expr Spelt (λ x y is. subst (λ z. Spelt (roll-Expr z)) is (at_level y))
 
-  tails-good : {A : Type 0} (spell : A → List Seen) (P : A → Type 0) → ((x : A) → Each G (spell x) → P x) → (xs : List A) → Each G (tails spell xs) → Each P xs
+  tails-good : {A : Type 0} (spell : A → List Seen) (P : A → Type 0) → ((x : A) → Each G (spell x) → P x) → (xs : List A) →
+      Each G (tails spell xs) → Each P xs
   tails-good spell P g [] h = tt
-  tails-good spell P g (x ∷ xs) h = let parts = each-parts G (spell x) (tails spell xs) h.1 in (g x parts.0, tails-good spell P g xs parts.1)
+  tails-good spell P g (x ∷ xs) h = let parts = each-parts G (spell x) (tails spell xs) h.1 in
+      (g x parts.0, tails-good spell P g xs parts.1)
 
-  list-good : {A : Type 0} (spell : A → List Seen) (P : A → Type 0) → ((x : A) → Each G (spell x) → P x) → (xs : List A) → Each G (spelled_list spell xs) → Each P xs
+  list-good : {A : Type 0} (spell : A → List Seen) (P : A → Type 0) → ((x : A) → Each G (spell x) → P x) → (xs : List A) →
+      Each G (spelled_list spell xs) → Each P xs
   list-good spell P g [] h = tt
-  list-good spell P g (x ∷ xs) h = let parts = each-parts G (spell x) (tails spell xs) h in (g x parts.0, tails-good spell P g xs parts.1)
+  list-good spell P g (x ∷ xs) h = let parts = each-parts G (spell x) (tails spell xs) h in
+      (g x parts.0, tails-good spell P g xs parts.1)
 
   cont-good : (c : Option Name) → Each G (spelled_cont c) → Each N (option_words c)
   cont-good None h = tt
@@ -106,8 +111,14 @@ module _ (N : Name → Type 0) where
   form-good (f.Info n y) h = ((h.1.0, tt), tt)
   form-good (f.Start b n g) h = ((h.1.0, tt), tt)
   form-good (f.State n ps c) h =
-      let parts = each-parts G (spelled_list spelled_param ps) (spelled_cont c) h.1.1.1 in
-      ((h.1.0, each-append N (map typed_name ps) (option_words c) (params-good ps (list-good spelled_param (λ (p : Typed). N p.name) (λ p k. k.0) ps parts.0)) (cont-good c parts.1)), tt)
+      let parts = each-parts G (spelled_list spelled_param ps) (spelled_cont c) h.1.1.1 in (
+        (
+          h.1.0,
+          each-append N (map typed_name ps) (option_words c)
+              (params-good ps (list-good spelled_param (λ (p : Typed). N p.name) (λ p k. k.0) ps parts.0)) (cont-good c parts.1),
+        ),
+        tt,
+      )
   form-good (f.On w ns) h =
       let rest = answers-good w (Marked m.Open ∷ (spelled_list spelled_name ns ++ (Marked m.Close ∷ []))) h.1 in
       let parts = each-parts G (spelled_list spelled_name ns) (Marked m.Close ∷ []) rest.1.1 in
@@ -128,7 +139,9 @@ module _ (N : Name → Type 0) where
       let args = each-parts G (spelled_list spelled xs) (Marked m.BraceClose ∷ Marked m.Close ∷ []) h.1.1.1.1 in
       ((h.1.1.0, tt), list-good spelled NamesGood expr-names xs args.0)
   form-good (f.Suspend l n xs p) h =
-      let args = each-parts G (spelled_list spelled xs) (Marked m.Semicolon ∷ Named p ∷ Marked m.BraceClose ∷ Marked m.Close ∷ []) h.1.1.1.1.1.1 in
+      let args =
+      each-parts G (spelled_list spelled xs) (Marked m.Semicolon ∷ Named p ∷ Marked m.BraceClose ∷ Marked m.Close ∷ [])
+      h.1.1.1.1.1.1 in
       ((h.1.1.0, (h.1.1.1.1.0, (args.1.1.0, tt))), list-good spelled NamesGood expr-names xs args.0)
   form-good (f.Resume n) h = ((h.1.1.0, tt), tt)
   form-good (f.Error n) h = ((h.1.1.0, tt), tt)

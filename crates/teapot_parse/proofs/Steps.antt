@@ -1,5 +1,6 @@
 -- The turns of the loops over lines.
-use Rattle.std.proofs.Common.{◌≡◌, ℕ, ◌+◌, ◌<◌, ◌≤◌, List, [], ◌∷◌, ◌++◌, length, get_or, drop, map, Option, Some, None, Result, Ok, Err, refl, ap, sym, ◌∙◌, append_assoc, append-nil}
+use Rattle.std.proofs.Common.{◌≡◌, ℕ, ◌+◌, ◌<◌, ◌≤◌, List, [], ◌∷◌, ◌++◌, length, get_or, drop, map, Option, Some, None, Result}
+use Rattle.std.proofs.Common.{Ok, Err, refl, ap, sym, ◌∙◌, append_assoc, append-nil}
 use Rattle.std.proofs.lemmas.List.{drop_more, drop_all}
 use Rattle.tw_base.specs.Answers.{◌>>=◌}
 use Rattle.tw_lex.specs.declared.token.Line.{Line}
@@ -21,7 +22,8 @@ use Rattle.teapot_parse.specs.Counting.{counted, over, first_over}
 use Rattle.teapot_parse.specs.Building.{built_on, with_line}
 
 -- an item, and those behind it
-pub item-first : {X : Type 0} (xs : List X) (at : ℕ) (x : X) → at < length xs → x ≡ get_or xs at x → drop at xs ≡ x ∷ drop (at + 1) xs
+pub item-first : {X : Type 0} (xs : List X) (at : ℕ) (x : X) → at < length xs → x ≡ get_or xs at x →
+    drop at xs ≡ x ∷ drop (at + 1) xs
 item-first xs at x lt is = drop_more xs at x lt ∙ ap (λ y. y ∷ drop (at + 1) xs) (sym is)
 
 -- ---- from the last line on
@@ -36,7 +38,8 @@ built-last s (q ∷ ps) p = ap (with_line q.line q.form) (built-last s ps p)
 abbrev pub after_forms : List Placed → Result (List Placed) ParseError → Result (List Placed) ParseError
 after_forms done r = r >>= λ ps. Ok (done ++ ps)
 
-regroup : (done : List Placed) (p : Placed) (r : Result (List Placed) ParseError) → after_forms done (r >>= λ ps. Ok (p ∷ ps)) ≡ after_forms (done ++ p ∷ []) r
+regroup : (done : List Placed) (p : Placed) (r : Result (List Placed) ParseError) →
+    after_forms done (r >>= λ ps. Ok (p ∷ ps)) ≡ after_forms (done ++ p ∷ []) r
 regroup done p (Ok ps) = ap Ok (sym (append_assoc done (p ∷ []) ps))
 regroup done p (Err e) = refl
 
@@ -44,23 +47,29 @@ pub bad-misses : {Y : Type 0} (e : ReadError) (due : Option Y) → e ≡ Bad →
 bad-misses Bad due is h = h
 bad-misses Memory due is h = absurd cc
 
-pub forms-on : (profile : ℕ) (ls : List Line) (at : ℕ) (x : Line) (form : Form Cut) (done : List Placed) (all : Result (List Placed) ParseError) → at < length ls → x ≡ get_or ls at x
+pub forms-on : (profile : ℕ) (ls : List Line) (at : ℕ) (x : Line) (form : Form Cut) (done : List Placed)
+    (all : Result (List Placed) ParseError) → at < length ls → x ≡ get_or ls at x
     → form_of profile (map (seen profile) x.tokens) ≡ Some form → after_forms done (forms_read profile (drop at ls)) ≡ all
     → after_forms (done ++ record { line = x.number; form = form } ∷ []) (forms_read profile (drop (at + 1) ls)) ≡ all
 unfolding forms_read
 forms-on profile ls at x form done all lt item is so_far =
     let rest = forms_read profile (drop (at + 1) ls) in
-    let one : forms_read profile (x ∷ drop (at + 1) ls) ≡ (rest >>= λ ps. Ok (record { line = x.number; form = form } ∷ ps)) = rw is refl in
-    sym (regroup done (record { line = x.number; form = form }) rest) ∙ ap (after_forms done) (sym one) ∙ ap (λ us. after_forms done (forms_read profile us)) (sym (item-first ls at x lt item)) ∙ so_far
+    let one : forms_read profile (x ∷ drop (at + 1) ls) ≡ (rest >>= λ ps. Ok (record { line = x.number; form = form } ∷ ps)) =
+    rw is refl in
+    sym (regroup done (record { line = x.number; form = form }) rest) ∙ ap (after_forms done) (sym one)
+    ∙ ap (λ us. after_forms done (forms_read profile us)) (sym (item-first ls at x lt item)) ∙ so_far
 
-pub forms-bad : (profile : ℕ) (ls : List Line) (at : ℕ) (x : Line) (done : List Placed) (all : Result (List Placed) ParseError) → at < length ls → x ≡ get_or ls at x
-    → form_of profile (map (seen profile) x.tokens) ≡ None → after_forms done (forms_read profile (drop at ls)) ≡ all → all ≡ Err (BadLine x.number)
+pub forms-bad : (profile : ℕ) (ls : List Line) (at : ℕ) (x : Line) (done : List Placed)
+    (all : Result (List Placed) ParseError) → at < length ls → x ≡ get_or ls at x
+    → form_of profile (map (seen profile) x.tokens) ≡ None → after_forms done (forms_read profile (drop at ls)) ≡ all →
+    all ≡ Err (BadLine x.number)
 unfolding forms_read
 forms-bad profile ls at x done all lt item is so_far =
     let one : forms_read profile (x ∷ drop (at + 1) ls) ≡ Err (BadLine x.number) = rw is refl in
     sym so_far ∙ ap (λ us. after_forms done (forms_read profile us)) (item-first ls at x lt item) ∙ ap (after_forms done) one
 
-pub forms-end : (profile : ℕ) (ls : List Line) (at : ℕ) (done : List Placed) (all : Result (List Placed) ParseError) → length ls ≤ at → after_forms done (forms_read profile (drop at ls)) ≡ all → all ≡ Ok done
+pub forms-end : (profile : ℕ) (ls : List Line) (at : ℕ) (done : List Placed) (all : Result (List Placed) ParseError) →
+    length ls ≤ at → after_forms done (forms_read profile (drop at ls)) ≡ all → all ≡ Ok done
 unfolding forms_read
 forms-end profile ls at done all le so_far =
     let one : forms_read profile (drop at ls) ≡ Ok [] = ap (forms_read profile) (drop_all at ls le) in
@@ -68,20 +77,23 @@ forms-end profile ls at done all le so_far =
 
 -- ---- the counts
 
-pub over-on : (ps : List Placed) (at : ℕ) (x : Placed) (c : Counts) (all : Option (Many × ℕ)) → at < length ps → x ≡ get_or ps at x → over (counted c x.form) x.form ≡ None
+pub over-on : (ps : List Placed) (at : ℕ) (x : Placed) (c : Counts) (all : Option (Many × ℕ)) → at < length ps →
+    x ≡ get_or ps at x → over (counted c x.form) x.form ≡ None
     → first_over c (drop at ps) ≡ all → first_over (counted c x.form) (drop (at + 1) ps) ≡ all
 unfolding first_over
 over-on ps at x c all lt item is so_far =
     let one : first_over c (x ∷ drop (at + 1) ps) ≡ first_over (counted c x.form) (drop (at + 1) ps) = rw is refl in
     sym one ∙ ap (first_over c) (sym (item-first ps at x lt item)) ∙ so_far
 
-pub over-here : (ps : List Placed) (at : ℕ) (x : Placed) (c : Counts) (what : Many) (all : Option (Many × ℕ)) → at < length ps → x ≡ get_or ps at x → over (counted c x.form) x.form ≡ Some what
+pub over-here : (ps : List Placed) (at : ℕ) (x : Placed) (c : Counts) (what : Many) (all : Option (Many × ℕ)) →
+    at < length ps → x ≡ get_or ps at x → over (counted c x.form) x.form ≡ Some what
     → first_over c (drop at ps) ≡ all → all ≡ Some (what, x.line)
 unfolding first_over
 over-here ps at x c what all lt item is so_far =
     let one : first_over c (x ∷ drop (at + 1) ps) ≡ Some (what, x.line) = rw is refl in
     sym so_far ∙ ap (first_over c) (item-first ps at x lt item) ∙ one
 
-pub over-end : (ps : List Placed) (at : ℕ) (c : Counts) (all : Option (Many × ℕ)) → length ps ≤ at → first_over c (drop at ps) ≡ all → all ≡ None
+pub over-end : (ps : List Placed) (at : ℕ) (c : Counts) (all : Option (Many × ℕ)) → length ps ≤ at →
+    first_over c (drop at ps) ≡ all → all ≡ None
 unfolding first_over
 over-end ps at c all le so_far = sym so_far ∙ ap (first_over c) (drop_all at ps le)

@@ -1,5 +1,6 @@
 -- What the lexer finds in a text are lines as they stand in a text.
-use Rattle.std.proofs.Common.{◌≡◌, ℕ, zero, suc, ◌+◌, ◌-◌, Bool, true, false, cond, ◌||◌, List, [], ◌∷◌, ◌++◌, length, take, Option, Some, None, Result, Ok, Err, refl, ap, ◌∙◌, subst, arith}
+use Rattle.std.proofs.Common.{◌≡◌, ℕ, zero, suc, ◌+◌, ◌-◌, Bool, true, false, cond, ◌||◌, List, [], ◌∷◌, ◌++◌, length, take}
+use Rattle.std.proofs.Common.{Option, Some, None, Result, Ok, Err, refl, ap, ◌∙◌, subst, arith}
 use Rattle.std.specs.Prelude.{not, nat_le}
 use Rattle.std.specs.List.{list_all, position_or_len, prefix_len}
 use Rattle.std.specs.Option.{option_map}
@@ -33,7 +34,8 @@ if_text : (v : Bool) (x y : Option (What × ℕ)) → (v ≡ true → IsText x) 
 if_text true x y p q = p refl
 if_text false x y p q = q
 
-start-first : (s d : Bool) (b n : ℕ) (bs : List ℕ) → s ≡ true → starts_word (b ∷ take n bs) ≡ true → starts_word (take (cond (not (not (s || d))) (1 + n) 0) (b ∷ bs)) ≡ true
+start-first : (s d : Bool) (b n : ℕ) (bs : List ℕ) → s ≡ true → starts_word (b ∷ take n bs) ≡ true →
+    starts_word (take (cond (not (not (s || d))) (1 + n) 0) (b ∷ bs)) ≡ true
 start-first true d b n bs e h = let more : 1 + n ≡ suc n = omega arith in ap (λ k. starts_word (take k (b ∷ bs))) more ∙ h
 start-first false d b n bs e h = absurd cc
 
@@ -48,7 +50,8 @@ not-not false = refl
 twice : (λ b. not (not (is_word_byte b))) ≡ is_word_byte
 twice = λ j b. not-not (is_word_byte b) j
 
-front-one : (p : ℕ → Bool) (v : Bool) (x : ℕ) (xs : List ℕ) (n : ℕ) → p x ≡ v → list_all p (take n xs) ≡ true → list_all p (take (cond v (1 + n) 0) (x ∷ xs)) ≡ true
+front-one : (p : ℕ → Bool) (v : Bool) (x : ℕ) (xs : List ℕ) (n : ℕ) → p x ≡ v → list_all p (take n xs) ≡ true →
+    list_all p (take (cond v (1 + n) 0) (x ∷ xs)) ≡ true
 front-one p true x xs n e rest =
     let more : 1 + n ≡ suc n = omega arith in
     ap (λ k. list_all p (take k (x ∷ xs))) more ∙ and_from (p x) (list_all p (take n xs)) e rest
@@ -86,7 +89,8 @@ lexeme-text (b ∷ bs) =
     let bytes = b ∷ bs in
     let run = word_run bytes in
     if_text (is_word_start b) (word_at run) (cond (is_digit b) (number_at run) (mark_at bytes))
-    (λ start. if_text (nat_le (length run) 64) (Some (what.Word run, length run)) None (λ short. (run-starts b bs start, run-passes bytes, leb-true (length run) 64 short)) tt)
+    (λ start. if_text (nat_le (length run) 64) (Some (what.Word run, length run)) None
+    (λ short. (run-starts b bs start, run-passes bytes, leb-true (length run) 64 short)) tt)
     (if_text (is_digit b) (number_at run) (mark_at bytes) (λ _. number-text (number_of run) (length run)) (mark-text bytes))
 
 -- ---- the tokens of a line
@@ -101,15 +105,19 @@ MayBeText (Some ts) = AreText ts
 -- a token and those after it
 abbrev put_token : ℕ → Option (What × ℕ) → (ℕ → Option (List Token)) → Option (List Token)
 put_token at None rest = None
-put_token at (Some found) rest = option_map (λ ts. record { start = at; end = at + found.1; what = found.0 } ∷ ts) (rest (found.1 - 1))
+put_token at (Some found) rest = option_map (λ ts. record { start = at; end = at + found.1; what = found.0 } ∷ ts)
+    (rest (found.1 - 1))
 
-before-text : (t : Token) (rest : Option (List Token)) → IsTextToken t.what → MayBeText rest → MayBeText (option_map (λ ts. t ∷ ts) rest)
+before-text : (t : Token) (rest : Option (List Token)) → IsTextToken t.what → MayBeText rest →
+    MayBeText (option_map (λ ts. t ∷ ts) rest)
 before-text t None h k = tt
 before-text t (Some ts) h k = (h, k)
 
-put-text : (at : ℕ) (found : Option (What × ℕ)) (rest : ℕ → Option (List Token)) → IsText found → ((skip : ℕ) → MayBeText (rest skip)) → MayBeText (put_token at found rest)
+put-text : (at : ℕ) (found : Option (What × ℕ)) (rest : ℕ → Option (List Token)) → IsText found →
+    ((skip : ℕ) → MayBeText (rest skip)) → MayBeText (put_token at found rest)
 put-text at None rest h k = tt
-put-text at (Some found) rest h k = before-text (record { start = at; end = at + found.1; what = found.0 }) (rest (found.1 - 1)) h (k (found.1 - 1))
+put-text at (Some found) rest h k = before-text (record { start = at; end = at + found.1; what = found.0 })
+    (rest (found.1 - 1)) h (k (found.1 - 1))
 
 if_may : (v : Bool) (x y : Option (List Token)) → MayBeText x → MayBeText y → MayBeText (cond v x y)
 if_may true x y p q = p
@@ -123,7 +131,8 @@ tokens-text (suc skip) at (b ∷ bs) = tokens-text skip (at + 1) bs
 tokens-text zero at (b ∷ bs) =
     if_may (is_blank b) (tokens_from zero (at + 1) bs) (put_token at (lexeme (b ∷ bs)) (λ skip. tokens_from skip (at + 1) bs))
     (tokens-text zero (at + 1) bs)
-    (put-text at (lexeme (b ∷ bs)) (λ skip. tokens_from skip (at + 1) bs) (lexeme-text (b ∷ bs)) (λ skip. tokens-text skip (at + 1) bs))
+    (put-text at (lexeme (b ∷ bs)) (λ skip. tokens_from skip (at + 1) bs) (lexeme-text (b ∷ bs))
+    (λ skip. tokens-text skip (at + 1) bs))
 
 abbrev GivesText : Result (List Token) LexError → Type 0
 GivesText (Ok ts) = AreText ts
@@ -140,7 +149,8 @@ if_gives false number r h = tt
 line-text : (number start : ℕ) (line : List ℕ) → GivesText (line_tokens number start line)
 line-text number start line =
     let code = code_of line in
-    if_gives (list_all is_allowed code) number (tokens_of number start code) (or_bad-text number (tokens_from 0 start code) (tokens-text 0 start code))
+    if_gives (list_all is_allowed code) number (tokens_of number start code)
+    (or_bad-text number (tokens_from 0 start code) (tokens-text 0 start code))
 
 -- ---- the lines of a text
 
@@ -152,11 +162,13 @@ with-text : (number : ℕ) (ts : List Token) (ls : List Line) → AreText ts →
 with-text number [] ls h k = k
 with-text number (t ∷ ts) ls h k = (h, k)
 
-rest-text : (number : ℕ) (ts : List Token) (rest : Result (List Line) LexError) → AreText ts → GivesLines rest → GivesLines (rest >>= λ ls. Ok (with_line number ts ls))
+rest-text : (number : ℕ) (ts : List Token) (rest : Result (List Line) LexError) → AreText ts → GivesLines rest →
+    GivesLines (rest >>= λ ls. Ok (with_line number ts ls))
 rest-text number ts (Ok ls) h k = with-text number ts ls h k
 rest-text number ts (Err e) h k = tt
 
-line-and-rest : (number : ℕ) (found : Result (List Token) LexError) (rest : Result (List Line) LexError) → GivesText found → GivesLines rest → GivesLines (found >>= λ ts. rest >>= λ ls. Ok (with_line number ts ls))
+line-and-rest : (number : ℕ) (found : Result (List Token) LexError) (rest : Result (List Line) LexError) → GivesText found →
+    GivesLines rest → GivesLines (found >>= λ ts. rest >>= λ ls. Ok (with_line number ts ls))
 line-and-rest number (Ok ts) rest h k = rest-text number ts rest h k
 line-and-rest number (Err e) rest h k = tt
 
@@ -164,22 +176,27 @@ lines-text : (number start : ℕ) (pieces : List (List ℕ)) → GivesLines (lin
 unfolding lines_from
 lines-text number start [] = tt
 lines-text number start (line ∷ rest) =
-    line-and-rest number (line_tokens number start line) (lines_from (number + 1) (start + length line + 1) rest) (line-text number start line) (lines-text (number + 1) (start + length line + 1) rest)
+    line-and-rest number (line_tokens number start line) (lines_from (number + 1) (start + length line + 1) rest)
+    (line-text number start line) (lines-text (number + 1) (start + length line + 1) rest)
 
 abbrev GivesLexed : Result Lexed LexError → Type 0
 GivesLexed (Ok found) = AreTextLines found.list
 GivesLexed (Err e) = Unit {0}
 
-all-text : (all : ℕ) (found : Result (List Line) LexError) → GivesLines found → GivesLexed (found >>= λ ls. Ok (record { all = all; list = ls }))
+all-text : (all : ℕ) (found : Result (List Line) LexError) → GivesLines found →
+    GivesLexed (found >>= λ ls. Ok (record { all = all; list = ls }))
 all-text all (Ok ls) h = h
 all-text all (Err e) h = tt
 
 pub lexed-are-text-lines : LexedAreTextLines
 unfolding lexed
-lexed-are-text-lines text found e = subst GivesLexed e (all-text (length (lines_of text)) (lines_from 1 0 (lines_of text)) (lines-text 1 0 (lines_of text)))
+lexed-are-text-lines text found e =
+    subst GivesLexed e (all-text (length (lines_of text)) (lines_from 1 0 (lines_of text)) (lines-text 1 0 (lines_of text)))
 
 pub text-gives-tree : TextGivesTree
 text-gives-tree text found before lines behind p after e parts read =
     let all = subst AreTextLines parts (lexed-are-text-lines text found e) in
-    let these = (each-parts (λ (l : Line). Each (λ (t : Token). IsTextToken t.what) l.tokens) lines behind (each-parts (λ (l : Line). Each (λ (t : Token). IsTextToken t.what) l.tokens) before (lines ++ behind) all).1).0 in
+    let these =
+    (each-parts (λ (l : Line). Each (λ (t : Token). IsTextToken t.what) l.tokens) lines behind
+    (each-parts (λ (l : Line). Each (λ (t : Token). IsTextToken t.what) l.tokens) before (lines ++ behind) all).1).0 in
     parsed-found lines p after these read

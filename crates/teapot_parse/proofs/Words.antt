@@ -6,7 +6,8 @@ use Rattle.teapot_tree.specs.declared.keyword.Keyword.{Keyword}
 use Rattle.teapot_tree.specs.declared.keyword.Keyword.TheVariants as k
 use Rattle.teapot_tree.specs.Keywords.{keyword_of}
 
-skips : (b : Bool) (key : Keyword) (rest : Option Keyword) → (Some key ≡ Some k.ForEach → ⊥) → (rest ≡ Some k.ForEach → ⊥) → cond b (Some key) rest ≡ Some k.ForEach → ⊥
+skips : (b : Bool) (key : Keyword) (rest : Option Keyword) → (Some key ≡ Some k.ForEach → ⊥) → (rest ≡ Some k.ForEach → ⊥) →
+    cond b (Some key) rest ≡ Some k.ForEach → ⊥
 skips true key rest other below e = other e
 skips false key rest other below e = below e
 
@@ -150,4 +151,37 @@ other-WrFault e = cc
 
 pub no-for_each : (w : List ℕ) → keyword_of 1 w ≡ Some k.ForEach → ⊥
 unfolding keyword_of
-no-for_each w = skips (bytes_eq w (codes "Protocol")) k.Protocol _ other-Protocol (skips (bytes_eq w (codes "Message")) k.Message _ other-Message (skips (bytes_eq w (codes "Info")) k.Info _ other-Info (skips (bytes_eq w (codes "HomeStart")) k.HomeStart _ other-HomeStart (skips (bytes_eq w (codes "CacheStart")) k.CacheStart _ other-CacheStart (skips (bytes_eq w (codes "State")) k.State _ other-State (skips (bytes_eq w (codes "On")) k.On _ other-On (skips (bytes_eq w (codes "Default")) k.Default _ other-Default (skips (bytes_eq w (codes "Local")) k.Local _ other-Local (skips (bytes_eq w (codes "Begin")) k.Begin _ other-Begin (skips (bytes_eq w (codes "End")) k.End _ other-End (skips (bytes_eq w (codes "If")) k.If _ other-If (skips (bytes_eq w (codes "Else")) k.Else _ other-Else (skips (bytes_eq w (codes "Send")) k.Send _ other-Send (skips (bytes_eq w (codes "SendAll")) k.SendAll _ other-SendAll (skips (bytes_eq w (codes "SetTag")) k.SetTag _ other-SetTag (skips (bytes_eq w (codes "SetState")) k.SetState _ other-SetState (skips (bytes_eq w (codes "Suspend")) k.Suspend _ other-Suspend (skips (bytes_eq w (codes "Resume")) k.Resume _ other-Resume (skips (bytes_eq w (codes "Error")) k.Error _ other-Error (skips (bytes_eq w (codes "Install")) k.Install _ other-Install (skips (bytes_eq w (codes "Enqueue")) k.Enqueue _ other-Enqueue (skips (bytes_eq w (codes "WakeUp")) k.WakeUp _ other-WakeUp (skips (bytes_eq w (codes "Int")) k.Int _ other-Int (skips (bytes_eq w (codes "Bool")) k.Bool _ other-Bool (skips (bytes_eq w (codes "Node")) k.Node _ other-Node (skips (bytes_eq w (codes "Set")) k.Set _ other-Set (skips (bytes_eq w (codes "Invalid")) k.Invalid _ other-Invalid (skips (bytes_eq w (codes "ReadOnly")) k.ReadOnly _ other-ReadOnly (skips (bytes_eq w (codes "ReadWrite")) k.ReadWrite _ other-ReadWrite (skips (bytes_eq w (codes "True")) k.True _ other-True (skips (bytes_eq w (codes "False")) k.False _ other-False (skips (bytes_eq w (codes "Empty")) k.Empty _ other-Empty (skips (bytes_eq w (codes "src")) k.Src _ other-Src (skips (bytes_eq w (codes "self")) k.SelfNode _ other-SelfNode (skips (bytes_eq w (codes "home")) k.Home _ other-Home (skips (bytes_eq w (codes "One")) k.One _ other-One (skips (bytes_eq w (codes "Not")) k.Not _ other-Not (skips (bytes_eq w (codes "Count")) k.Count _ other-Count (skips (bytes_eq w (codes "Has")) k.Has _ other-Has (skips (bytes_eq w (codes "With")) k.With _ other-With (skips (bytes_eq w (codes "Without")) k.Without _ other-Without (skips (bytes_eq w (codes "data")) k.Data _ other-Data (skips (bytes_eq w (codes "RD_FAULT")) k.RdFault _ other-RdFault (skips (bytes_eq w (codes "WR_FAULT")) k.WrFault _ other-WrFault none))))))))))))))))))))))))))))))))))))))))))))
+no-for_each w = skips (bytes_eq w (codes "Protocol")) k.Protocol _ other-Protocol
+    (skips (bytes_eq w (codes "Message")) k.Message _ other-Message
+    (skips (bytes_eq w (codes "Info")) k.Info _ other-Info (skips
+    (bytes_eq w (codes "HomeStart")) k.HomeStart _ other-HomeStart
+    (skips (bytes_eq w (codes "CacheStart")) k.CacheStart _ other-CacheStart
+    (skips (bytes_eq w (codes "State")) k.State _ other-State
+    (skips (bytes_eq w (codes "On")) k.On _ other-On (skips (bytes_eq w (codes "Default")) k.Default _ other-Default
+    (skips (bytes_eq w (codes "Local")) k.Local _ other-Local
+    (skips (bytes_eq w (codes "Begin")) k.Begin _ other-Begin
+    (skips (bytes_eq w (codes "End")) k.End _ other-End (skips (bytes_eq w (codes "If")) k.If _ other-If
+    (skips (bytes_eq w (codes "Else")) k.Else _ other-Else (skips (bytes_eq w (codes "Send")) k.Send _ other-Send
+    (skips (bytes_eq w (codes "SendAll")) k.SendAll _ other-SendAll
+    (skips (bytes_eq w (codes "SetTag")) k.SetTag _ other-SetTag
+    (skips (bytes_eq w (codes "SetState")) k.SetState _ other-SetState
+    (skips (bytes_eq w (codes "Suspend")) k.Suspend _ other-Suspend
+    (skips (bytes_eq w (codes "Resume")) k.Resume _ other-Resume
+    (skips (bytes_eq w (codes "Error")) k.Error _ other-Error
+    (skips (bytes_eq w (codes "Install")) k.Install _ other-Install
+    (skips (bytes_eq w (codes "Enqueue")) k.Enqueue _ other-Enqueue
+    (skips (bytes_eq w (codes "WakeUp")) k.WakeUp _ other-WakeUp
+    (skips (bytes_eq w (codes "Int")) k.Int _ other-Int (skips (bytes_eq w (codes "Bool")) k.Bool _ other-Bool
+    (skips (bytes_eq w (codes "Node")) k.Node _ other-Node (skips (bytes_eq w (codes "Set")) k.Set _ other-Set
+    (skips (bytes_eq w (codes "Invalid")) k.Invalid _ other-Invalid
+    (skips (bytes_eq w (codes "ReadOnly")) k.ReadOnly _ other-ReadOnly
+    (skips (bytes_eq w (codes "ReadWrite")) k.ReadWrite _ other-ReadWrite
+    (skips (bytes_eq w (codes "True")) k.True _ other-True (skips (bytes_eq w (codes "False")) k.False _ other-False
+    (skips (bytes_eq w (codes "Empty")) k.Empty _ other-Empty
+    (skips (bytes_eq w (codes "src")) k.Src _ other-Src (skips (bytes_eq w (codes "self")) k.SelfNode _ other-SelfNode
+    (skips (bytes_eq w (codes "home")) k.Home _ other-Home (skips (bytes_eq w (codes "One")) k.One _ other-One
+    (skips (bytes_eq w (codes "Not")) k.Not _ other-Not (skips (bytes_eq w (codes "Count")) k.Count _ other-Count
+    (skips (bytes_eq w (codes "Has")) k.Has _ other-Has (skips (bytes_eq w (codes "With")) k.With _ other-With
+    (skips (bytes_eq w (codes "Without")) k.Without _ other-Without
+    (skips (bytes_eq w (codes "data")) k.Data _ other-Data (skips (bytes_eq w (codes "RD_FAULT")) k.RdFault _ other-RdFault
+    (skips (bytes_eq w (codes "WR_FAULT")) k.WrFault _ other-WrFault none))))))))))))))))))))))))))))))))))))))))))))

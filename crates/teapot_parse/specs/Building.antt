@@ -54,7 +54,8 @@ put_on line what (b ∷ bs) = record { is_else = b.is_else; stmts = record { wha
 -- an If before the statements of the innermost block, which may be those of its Else
 abbrev pub if_on : ℕ → Expr → List Stmt → List Block → List Block
 if_on line test first [] = put_on line (d.If test first None) []
-if_on line test first (b ∷ bs) = if b.is_else then put_on line (d.If test first (Some b.stmts)) bs else put_on line (d.If test first None) (b ∷ bs)
+if_on line test first (b ∷ bs) = if b.is_else then put_on line (d.If test first (Some b.stmts)) bs
+    else put_on line (d.If test first None) (b ∷ bs)
 
 abbrev pub else_on : List Block → List Block
 else_on [] = []
@@ -105,7 +106,8 @@ with_handler line on args s = record s {
 -- a line before those that gave these parts
 abbrev pub with_line : ℕ → Form Cut → Parts → Parts
 with_line line (f.Protocol n p) s = record s { head = Some (record { name = n; profile = p; line = line }) }
-with_line line (f.Message n ys c b) s = record s { messages = record { name = n; args = ys; chan = c; carries = b; line = line } ∷ s.messages }
+with_line line (f.Message n ys c b) s =
+    record s { messages = record { name = n; args = ys; chan = c; carries = b; line = line } ∷ s.messages }
 with_line line (f.Info n y) s = record s { infos = record { name = n; ty = y; line = line } ∷ s.infos }
 with_line line (f.Start h n g) s = record s { starts = record { home = h; state = n; tag = g; line = line } ∷ s.starts }
 with_line line (f.State n ps c) s = record s {

@@ -1,5 +1,6 @@
 -- The limits on a protocol, counted line by line.
-use Rattle.std.specs.Prelude.{ℕ, ◌+◌, ◌-◌, Bool, true, false, nat_lt, ◌||◌, if◌then◌else◌, List, [], ◌∷◌, length, Option, Some, None}
+use Rattle.std.specs.Prelude.{ℕ, ◌+◌, ◌-◌, Bool, true, false, nat_lt, ◌||◌, if◌then◌else◌, List, [], ◌∷◌, length, Option, Some}
+use Rattle.std.specs.Prelude.{None}
 use Rattle.std.specs.List.{list_any}
 use Rattle.teapot_lines.specs.declared.cut.Cut.{Cut}
 use Rattle.teapot_lines.specs.declared.cut.Cut.TheVariants.{Deep, Kept}
@@ -8,7 +9,8 @@ use Rattle.teapot_lines.specs.declared.form.Form.TheVariants as f
 use Rattle.teapot_parse.specs.declared.placed.Placed.{Placed}
 use Rattle.teapot_parse.specs.declared.count.Counts.{Counts}
 use Rattle.teapot_parse.specs.declared.count.Many.{Many}
-use Rattle.teapot_parse.specs.declared.count.Many.TheVariants.{States, Messages, Handlers, Infos, Locals, Args, Depth, Nest, Loops}
+use Rattle.teapot_parse.specs.declared.count.Many.TheVariants.{States, Messages, Handlers, Infos, Locals, Args, Depth, Nest}
+use Rattle.teapot_parse.specs.declared.count.Many.TheVariants.{Loops}
 
 abbrev pub no_counts : Counts
 no_counts = record { states = 0; messages = 0; handlers = 0; infos = 0; locals = 0; loops = 0; begins = 0 }

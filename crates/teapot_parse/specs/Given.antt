@@ -18,7 +18,8 @@ use Rattle.teapot_parse.specs.Trees.{Lines, lines_of}
 -- the tokens of each line are the spelling of the form beside it, at a profile of the language
 abbrev pub SpellAll : ℕ → List Line → Lines → Type 0
 SpellAll profile [] [] = Unit {0}
-SpellAll profile (l ∷ ls) (q ∷ qs) = (l.number ≡ q.0) × (fits_form profile q.1 ≡ true) × (map (seen profile) l.tokens ≡ spelling q.1) × SpellAll profile ls qs
+SpellAll profile (l ∷ ls) (q ∷ qs) = (l.number ≡ q.0) × (fits_form profile q.1 ≡ true)
+    × (map (seen profile) l.tokens ≡ spelling q.1) × SpellAll profile ls qs
 SpellAll profile _ _ = ⊥
 
 -- the lines of Begin, End and Else are named by no part of a tree

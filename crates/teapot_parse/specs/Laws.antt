@@ -25,5 +25,6 @@ LexedAreTextLines = (text : List ℕ) (found : Lexed) → lexed text ≡ Ok foun
 -- lines of a text that follow each other and are read give a tree of the grammar, and spell its forms in its order
 abbrev pub TextGivesTree : Type 0
 TextGivesTree =
-    (text : List ℕ) (found : Lexed) (before lines behind : List Line) (p : Protocol) (after : ℕ) → lexed text ≡ Ok found → found.list ≡ before ++ (lines ++ behind)
+    (text : List ℕ) (found : Lexed) (before lines behind : List Line) (p : Protocol) (after : ℕ) → lexed text ≡ Ok found →
+    found.list ≡ before ++ (lines ++ behind)
     → parsed lines after ≡ Ok p → IsTree p × IsGiven lines p

@@ -10,7 +10,8 @@ use Rattle.teapot_parse.specs.declared.judge.Kind.TheVariants as k
 use Rattle.teapot_parse.specs.declared.judge.Block.{Block}
 use Rattle.teapot_parse.specs.declared.judge.Block.TheVariants.{First, Other}
 use Rattle.teapot_parse.specs.declared.judge.Place.{Place}
-use Rattle.teapot_parse.specs.declared.judge.Place.TheVariants.{Start, Messages, Infos, Starts, States, StateBegin, Handlers, HandlerBegin, Locals, Body, BlockBegin, AfterIf}
+use Rattle.teapot_parse.specs.declared.judge.Place.TheVariants.{Start, Messages, Infos, Starts, States, StateBegin, Handlers}
+use Rattle.teapot_parse.specs.declared.judge.Place.TheVariants.{HandlerBegin, Locals, Body, BlockBegin, AfterIf}
 use Rattle.teapot_parse.specs.declared.judge.Judged.{Judged}
 use Rattle.teapot_parse.specs.declared.judge.Judged.TheVariants.{Nested, Bad, Missing}
 

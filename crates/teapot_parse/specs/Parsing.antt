@@ -1,5 +1,6 @@
 -- What the lines of a protocol's text give: its tree, or the first refusal.
-use Rattle.std.specs.Prelude.{ℕ, ◌==◌, Bool, true, false, if◌then◌else◌, List, [], ◌∷◌, map, Option, Some, None, Result, Ok, Err, slice_get}
+use Rattle.std.specs.Prelude.{ℕ, ◌==◌, Bool, true, false, if◌then◌else◌, List, [], ◌∷◌, map, Option, Some, None, Result, Ok}
+use Rattle.std.specs.Prelude.{Err, slice_get}
 use Rattle.tw_base.specs.Answers.{◌>>=◌}
 use Rattle.tw_lex.specs.declared.token.Line.{Line}
 use Rattle.teapot_tree.specs.declared.keyword.Keyword.TheVariants as k

@@ -25,7 +25,8 @@ HasForm profile ts = (x : Form Expr) × (fits_form profile x ≡ true) × (ts �
 abbrev pub IsFirstOfNoForm : ℕ → List Line → ℕ → Type 0
 IsFirstOfNoForm profile [] n = ⊥
 IsFirstOfNoForm profile (l ∷ ls) n =
-    ((HasForm profile (map (seen profile) l.tokens) → ⊥) × (l.number ≡ n)) ⊎ (HasForm profile (map (seen profile) l.tokens) × IsFirstOfNoForm profile ls n)
+    ((HasForm profile (map (seen profile) l.tokens) → ⊥) × (l.number ≡ n))
+    ⊎ (HasForm profile (map (seen profile) l.tokens) × IsFirstOfNoForm profile ls n)
 
 abbrev pub cut_line : ℕ × Form Expr → Placed
 cut_line q = record { line = q.0; form = cut_form q.1 }
@@ -37,10 +38,12 @@ abbrev pub line_at : ℕ → Option (ℕ × Form Expr) → ℕ
 line_at after None = after
 line_at after (Some q) = q.0
 
--- the number of the first line up to which the lines are the front of no list that nests, or that behind them all where only the end is missing
+-- the number of the first line up to which the lines are the front of no list that nests, or that behind them all where only
+-- the end is missing
 abbrev pub IsBadNest : Lines → ℕ → ℕ → Type 0
 IsBadNest qs after n =
-    ((at : ℕ) × CanGoOn (take at (kinds_of qs)) × (CanGoOn (take (at + 1) (kinds_of qs)) → ⊥) × (n ≡ line_at after (slice_get qs at)))
+    ((at : ℕ) × CanGoOn (take at (kinds_of qs)) × (CanGoOn (take (at + 1) (kinds_of qs)) → ⊥)
+    × (n ≡ line_at after (slice_get qs at)))
     ⊎ (CanGoOn (kinds_of qs) × (IsNested (kinds_of qs) → ⊥) × (n ≡ after))
 
 -- the counts with one line more
@@ -69,5 +72,6 @@ pub record IsFirstOver (qs : Lines) (what : Many) (n : ℕ) : Type 0 where
 abbrev pub Refuses : List Line → ℕ → ParseError → Type 0
 Refuses lines after (BadLine n) = IsFirstOfNoForm (profile_of lines) lines n
 Refuses lines after (BadNest n) = (qs : Lines) × SpellAll (profile_of lines) lines qs × IsBadNest qs after n
-Refuses lines after (TooMany what n) = (qs : Lines) × SpellAll (profile_of lines) lines qs × IsNested (kinds_of qs) × IsFirstOver qs what n
+Refuses lines after (TooMany what n) = (qs : Lines) × SpellAll (profile_of lines) lines qs × IsNested (kinds_of qs)
+    × IsFirstOver qs what n
 Refuses lines after Memory = ⊥

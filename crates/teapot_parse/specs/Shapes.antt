@@ -1,7 +1,8 @@
 -- What nests: protocols, as far as the kinds of their lines go, and the lines of each.
 use Rattle.std.specs.Prelude.{◌≡◌, ℕ, zero, suc, List, [], ◌∷◌, ◌++◌}
 use Rattle.teapot_parse.specs.declared.judge.Kind.{Kind}
-use Rattle.teapot_parse.specs.declared.judge.Kind.TheVariants.{Protocol, Message, Info, Start, State, Handler, Local, Begin, End, If, Else, ForEach, Plain}
+use Rattle.teapot_parse.specs.declared.judge.Kind.TheVariants.{Protocol, Message, Info, Start, State, Handler, Local, Begin}
+use Rattle.teapot_parse.specs.declared.judge.Kind.TheVariants.{End, If, Else, ForEach, Plain}
 
 -- statements: the first, and those after it
 pub data Body : Type 0 where

@@ -12,7 +12,8 @@ use Rattle.teapot_tree.specs.declared.protocol.Start.{Start}
 use Rattle.teapot_tree.specs.declared.protocol.State.{State}
 use Rattle.teapot_tree.specs.declared.protocol.Trigger.{Trigger}
 use Rattle.teapot_tree.specs.declared.protocol.Trigger.TheVariants as t
-use Rattle.teapot_tree.specs.Bodies.{Simple, assign, send, send_all, set_tag, set_state, suspend, resume, install, enqueue, wake_up, error, Body, done, plain, branch, branches, loop, each, body_of}
+use Rattle.teapot_tree.specs.Bodies.{Simple, assign, send, send_all, set_tag, set_state, suspend, resume, install, enqueue}
+use Rattle.teapot_tree.specs.Bodies.{wake_up, error, Body, done, plain, branch, branches, loop, each, body_of}
 use Rattle.teapot_lines.specs.declared.form.Answers.TheVariants as a
 use Rattle.teapot_lines.specs.declared.form.Form.{Form}
 use Rattle.teapot_lines.specs.declared.form.Form.TheVariants as f
@@ -41,7 +42,8 @@ body_lines done = []
 body_lines (plain line s b) = (line, simple_form s) ∷ body_lines b
 body_lines (branch line e x b) = (line, f.If e) ∷ (0, f.Begin) ∷ (body_lines x ++ (0, f.End) ∷ body_lines b)
 body_lines (branches line e x y b) =
-    (line, f.If e) ∷ (0, f.Begin) ∷ (body_lines x ++ (0, f.End) ∷ (0, f.Else) ∷ (0, f.Begin) ∷ (body_lines y ++ (0, f.End) ∷ body_lines b))
+    (line, f.If e) ∷ (0, f.Begin) ∷ (body_lines x ++ (0, f.End) ∷ (0, f.Else) ∷ (0, f.Begin) ∷
+    (body_lines y ++ (0, f.End) ∷ body_lines b))
 body_lines (loop line n e x b) = (line, f.ForEach n e) ∷ (0, f.Begin) ∷ (body_lines x ++ (0, f.End) ∷ body_lines b)
 body_lines (each line n s x b) = body_lines b
 
@@ -58,10 +60,12 @@ abbrev pub local_line : Param → ℕ × Form Expr
 local_line p = (p.line, f.Local p.name p.ty)
 
 abbrev pub handler_lines : Handler → Lines
-handler_lines h = (h.line, handler_form h.on h.args) ∷ (0, f.Begin) ∷ (map local_line h.locals ++ (body_lines (body_of h.body) ++ (0, f.End) ∷ []))
+handler_lines h = (h.line, handler_form h.on h.args) ∷ (0, f.Begin) ∷
+    (map local_line h.locals ++ (body_lines (body_of h.body) ++ (0, f.End) ∷ []))
 
 abbrev pub state_lines : State → Lines
-state_lines s = (s.line, f.State s.name (map typed_of s.params) s.cont) ∷ (0, f.Begin) ∷ (flat_map handler_lines s.handlers ++ (0, f.End) ∷ [])
+state_lines s = (s.line, f.State s.name (map typed_of s.params) s.cont) ∷ (0, f.Begin) ∷
+    (flat_map handler_lines s.handlers ++ (0, f.End) ∷ [])
 
 abbrev pub message_line : MessageDecl → ℕ × Form Expr
 message_line m = (m.line, f.Message m.name m.args m.chan m.carries)
@@ -74,4 +78,5 @@ start_line s = (s.line, f.Start s.home s.state s.tag)
 
 abbrev pub lines_of : Protocol → Lines
 lines_of p =
-    (p.line, f.Protocol p.name p.profile) ∷ (map message_line p.messages ++ (map info_line p.infos ++ (map start_line p.starts ++ flat_map state_lines p.states)))
+    (p.line, f.Protocol p.name p.profile) ∷ (map message_line p.messages
+    ++ (map info_line p.infos ++ (map start_line p.starts ++ flat_map state_lines p.states)))

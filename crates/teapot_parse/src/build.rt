@@ -1,5 +1,6 @@
 ghost use Rattle.std.specs.Prelude.{◌≡◌, IfOk, map};
-ghost use Rattle.teapot_parse.specs.Building.{kept, param_at, trigger_of, top_of, below, put_on, if_on, else_on, no_parts, sent, plain, in_body, with_handler, with_line, built};
+ghost use Rattle.teapot_parse.specs.Building.{kept, param_at, trigger_of, top_of, below, put_on, if_on, else_on, no_parts};
+ghost use Rattle.teapot_parse.specs.Building.{sent, plain, in_body, with_handler, with_line, built};
 
 use crate::placed::Placed;
 use std::alloc::Global;

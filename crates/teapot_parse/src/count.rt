@@ -51,9 +51,12 @@ fn no_counts() -> Counts
 }
 
 fn counted(counts: Counts, form: &Form<Cut>) -> Counts
-    requires { counts.states + counts.messages + counts.handlers + counts.infos + counts.locals + counts.loops + counts.begins < 2 ^ 64 - 1 }
+    requires { counts.states + counts.messages + counts.handlers + counts.infos + counts.locals + counts.loops + counts.begins
+        < 2 ^ 64 - 1 }
     ensures value { result ≡ counted counts form.now }
-    ensures one { result.states + result.messages + result.handlers + result.infos + result.locals + result.loops + result.begins ≤ counts.states + counts.messages + counts.handlers + counts.infos + counts.locals + counts.loops + counts.begins + 1 }
+    ensures one { result.states + result.messages + result.handlers + result.infos + result.locals + result.loops
+        + result.begins ≤ counts.states + counts.messages + counts.handlers + counts.infos + counts.locals + counts.loops
+        + counts.begins + 1 }
 {
     let mut c = counts;
     match form {

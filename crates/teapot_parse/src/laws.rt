@@ -23,7 +23,8 @@ pub fn given_lines_are_read()
 
 /// What is read from the lines of a text is a tree of the grammar, and the lines spell its forms in its order.
 pub fn read_trees_are_given()
-    ensures { (lines : List Line) (p : Protocol) (after : ℕ) → AreTextLines lines → parsed lines after ≡ Ok p → IsTree p × IsGiven lines p }
+    ensures { (lines : List Line) (p : Protocol) (after : ℕ) → AreTextLines lines → parsed lines after ≡ Ok p →
+        IsTree p × IsGiven lines p }
 {}
 
 /// What each refusal says: the first line of no form; else the first line up to which the lines are the front of no

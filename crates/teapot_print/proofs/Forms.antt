@@ -1,5 +1,5 @@
 -- What holds of a tree's names and expressions holds of each of its lines.
-use Rattle.std.proofs.Common.{◌≡◌, ℕ, ◌+◌, List, [], ◌∷◌, ◌++◌, map, Option, true, refl, inl, inr, arith}
+use Rattle.std.proofs.Common.{◌≡◌, ℕ, ◌+◌, List, [], ◌∷◌, ◌++◌, map, true, refl, inl, inr, arith}
 use Rattle.std.specs.Prelude.{◌⊎◌}
 use Rattle.std.specs.List.{flat_map}
 use Rattle.tw_base.specs.Lists.{Each}
@@ -13,16 +13,19 @@ use Rattle.teapot_tree.specs.declared.protocol.Start.{Start}
 use Rattle.teapot_tree.specs.declared.protocol.State.{State}
 use Rattle.teapot_tree.specs.declared.protocol.Trigger.{Trigger}
 use Rattle.teapot_tree.specs.declared.protocol.Trigger.TheVariants as t
-use Rattle.teapot_tree.specs.Bodies.{Simple, assign, send, send_all, set_tag, set_state, suspend, resume, install, enqueue, wake_up, error, Body, done, plain, branch, branches, loop, each, body_of}
+use Rattle.teapot_tree.specs.Bodies.{Simple, assign, send, send_all, set_tag, set_state, suspend, resume, install, enqueue}
+use Rattle.teapot_tree.specs.Bodies.{wake_up, error, Body, done, plain, branch, branches, loop, each, body_of}
 use Rattle.teapot_tree.specs.Grammar.{IsTree, IsName}
-use Rattle.teapot_tree.specs.Parts.{names_in, exprs_in, simple_exprs, simple_words, words_in, loops, eaches, exprs_of, handlers_of, trigger_words, option_words, handler_names, state_names, names_of, fits}
+use Rattle.teapot_tree.specs.Parts.{names_in, exprs_in, simple_exprs, simple_words, words_in, loops, eaches, exprs_of}
+use Rattle.teapot_tree.specs.Parts.{handlers_of, trigger_words, option_words, handler_names, state_names, names_of, fits}
 use Rattle.teapot_lines.specs.declared.form.Form.{Form}
 use Rattle.teapot_lines.specs.declared.form.Form.TheVariants as f
-use Rattle.teapot_parse.specs.Trees.{Lines, simple_form, body_lines, handler_form, handler_lines, local_line, state_lines, message_line, info_line, start_line, lines_of, typed_of}
+use Rattle.teapot_parse.specs.Trees.{Lines, simple_form, body_lines, handler_form, handler_lines, local_line, state_lines}
+use Rattle.teapot_parse.specs.Trees.{message_line, info_line, start_line, lines_of, typed_of}
 use Rattle.teapot_parse.proofs.Again.{each-both, each-flat, each-map}
 use Rattle.teapot_parse.proofs.Builds.{each-parts}
 use Rattle.teapot_parse.proofs.Goods.{each-append, flat-each, typed_name}
-use Rattle.teapot_print.proofs.Stays.{FitsProfile, GoodExpr, GoodForm}
+use Rattle.teapot_print.proofs.Stays.{GoodExpr, GoodForm}
 
 flat-parts : {X Y : Type 0} (P : Y → Type 0) (g : X → List Y) (xs : List X) → Each P (flat_map g xs) → Each (λ x. Each P (g x)) xs
 flat-parts P g [] h = tt
@@ -39,7 +42,9 @@ module _ (profile : ℕ) where
   GoodLine q = GoodForm profile q.1
 
   -- what follows from each of some names
-  names-map : {X : Type 0} (name_of : X → Name) (line_of : X → ℕ × Form Expr) → ((x : X) → N (name_of x) → GoodLine (line_of x)) → (xs : List X) → Each N (map name_of xs) → Each GoodLine (map line_of xs)
+  names-map : {X : Type 0} (name_of : X → Name) (line_of : X → ℕ × Form Expr) →
+      ((x : X) → N (name_of x) → GoodLine (line_of x)) → (xs : List X) → Each N (map name_of xs) →
+      Each GoodLine (map line_of xs)
   names-map name_of line_of go [] h = tt
   names-map name_of line_of go (x ∷ xs) (h, hs) = (go x h, names-map name_of line_of go xs hs)
 
@@ -74,7 +79,8 @@ module _ (profile : ℕ) where
   block-good : (x rest : Lines) → Each GoodLine x → Each GoodLine rest → Each GoodLine (x ++ ((0, f.End) ∷ rest))
   block-good x rest h k = each-append GoodLine x ((0, f.End) ∷ rest) h ((tt, tt, tt), k)
 
-  body-good : (b : Body) → eaches b ≡ 0 → Loops (loops b) → Each N (words_in b) → Each Q (exprs_in b) → Each GoodLine (body_lines b)
+  body-good : (b : Body) → eaches b ≡ 0 → Loops (loops b) → Each N (words_in b) → Each Q (exprs_in b) →
+      Each GoodLine (body_lines b)
   body-good done n l w x = tt
   body-good (plain line s b) n l w x =
       let ws = each-parts N (simple_words s) (words_in b) w in
@@ -100,8 +106,15 @@ module _ (profile : ℕ) where
       let first = body-good y ny (fewer all (loops y) (λ u. omega arith) l) ws.0 xs.0 in
       let second = body-good z nz (fewer all (loops z) (λ u. omega arith) l) wz.0 xz.0 in
       let rest = body-good b nb (fewer all (loops b) (λ u. omega arith) l) wz.1 xz.1 in
-      let more = block-good (body_lines z) (body_lines b) second rest in
-      ((tt, (one, tt), tt), ((tt, tt, tt), block-good (body_lines y) ((0, f.Else) ∷ (0, f.Begin) ∷ (body_lines z ++ ((0, f.End) ∷ body_lines b))) first ((tt, tt, tt), ((tt, tt, tt), more))))
+      let more = block-good (body_lines z) (body_lines b) second rest in (
+        (tt, (one, tt), tt),
+        (
+          (tt, tt, tt),
+          block-good (body_lines y)
+              ((0, f.Else) ∷ (0, f.Begin) ∷ (body_lines z ++ ((0, f.End) ∷ body_lines b))) first
+              ((tt, tt, tt), ((tt, tt, tt), more)),
+        ),
+      )
   body-good (loop line v e y b) n l (name, w) (one, x) =
       let ny : eaches y ≡ 0 = omega arith in
       let nb : eaches b ≡ 0 = omega arith in
@@ -109,8 +122,10 @@ module _ (profile : ℕ) where
       let xs = each-parts Q (exprs_in y) (exprs_in b) x in
       let all = 1 + (loops y + loops b) in
       let first = body-good y ny (fewer all (loops y) (λ u. omega arith) l) ws.0 xs.0 in
-      let rest = body-good b nb (fewer all (loops b) (λ u. omega arith) l) ws.1 xs.1 in
-      (((name, tt), (one, tt), loop-profile all (loops y + loops b) refl l), ((tt, tt, tt), block-good (body_lines y) (body_lines b) first rest))
+      let rest = body-good b nb (fewer all (loops b) (λ u. omega arith) l) ws.1 xs.1 in (
+        ((name, tt), (one, tt), loop-profile all (loops y + loops b) refl l),
+        ((tt, tt, tt), block-good (body_lines y) (body_lines b) first rest),
+      )
   body-good (each line v s y b) n l w x = absurd (omega arith)
 
   -- ---- handlers
@@ -119,7 +134,8 @@ module _ (profile : ℕ) where
   abbrev pub Known : Handler → Type 0
   Known h = Each (λ e. fits e ≡ true) (exprs_of h) × (eaches (body_of h.body) ≡ 0) × Loops (loops (body_of h.body))
 
-  trigger-good : (on : Trigger) (args : List Name) → Each N (trigger_words on) → Each N args → GoodForm profile (handler_form on args)
+  trigger-good : (on : Trigger) (args : List Name) → Each N (trigger_words on) → Each N args →
+      GoodForm profile (handler_form on args)
   trigger-good t.RdFault args w x = (x, tt, tt)
   trigger-good t.WrFault args w x = (x, tt, tt)
   trigger-good (t.Named n) args w x = ((w.0, x), tt, tt)
@@ -134,12 +150,20 @@ module _ (profile : ℕ) where
       let p2 = each-parts N h.args (locals ++ (words_in b ++ exprs)) p1.1 in
       let p3 = each-parts N locals (words_in b ++ exprs) p2.1 in
       let p4 = each-parts N (words_in b) exprs p3.1 in
-      let good = each-both (λ e. Each N (names_in e)) (λ e. fits e ≡ true) (exprs_of h) (flat-parts N names_in (exprs_of h) p4.1) numbers in
+      let good = each-both (λ e. Each N (names_in e)) (λ e. fits e ≡ true) (exprs_of h)
+      (flat-parts N names_in (exprs_of h) p4.1) numbers in
       let body = block-good (body_lines b) [] (body-good b none few p4.0 good) tt in
-      let vars = names-map (λ (a : Param). a.name) local_line (λ a n. ((n, tt), tt, tt)) h.locals p3.0 in
-      (trigger-good h.on h.args p1.0 p2.0, ((tt, tt, tt), each-append GoodLine (map local_line h.locals) (body_lines b ++ ((0, f.End) ∷ [])) vars body))
+      let vars = names-map (λ (a : Param). a.name) local_line (λ a n. ((n, tt), tt, tt)) h.locals p3.0 in (
+        trigger-good h.on h.args p1.0 p2.0,
+        (
+          (tt, tt, tt),
+          each-append GoodLine (map local_line h.locals)
+              (body_lines b ++ ((0, f.End) ∷ [])) vars body,
+        ),
+      )
 
-  handlers-good : (hs : List Handler) → Each Known hs → Each (λ h. Each N (handler_names h)) hs → Each (λ h. Each GoodLine (handler_lines h)) hs
+  handlers-good : (hs : List Handler) → Each Known hs → Each (λ h. Each N (handler_names h)) hs →
+      Each (λ h. Each GoodLine (handler_lines h)) hs
   handlers-good [] k n = tt
   handlers-good (h ∷ hs) (k, ks) (n, ns) = (handler-good h k n, handlers-good hs ks ns)
 
@@ -155,16 +179,25 @@ module _ (profile : ℕ) where
       let p1 = each-parts N params (option_words s.cont ++ flat_map handler_names s.handlers) more in
       let p2 = each-parts N (option_words s.cont) (flat_map handler_names s.handlers) p1.1 in
       let hs = handlers-good s.handlers known (flat-parts N handler_names s.handlers p2.1) in
-      let words = each-append N (map typed_name (map typed_of s.params)) (option_words s.cont) (params-typed s.params p1.0) p2.0 in
-      (((name, words), tt, tt), ((tt, tt, tt), block-good (flat_map handler_lines s.handlers) [] (flat-each GoodLine handler_lines s.handlers hs) tt))
+      let words = each-append N (map typed_name (map typed_of s.params)) (option_words s.cont)
+      (params-typed s.params p1.0) p2.0 in (
+        ((name, words), tt, tt),
+        (
+          (tt, tt, tt),
+          block-good (flat_map handler_lines s.handlers) []
+              (flat-each GoodLine handler_lines s.handlers hs) tt,
+        ),
+      )
 
-  states-good : (ss : List State) → Each (λ (s : State). Each Known s.handlers) ss → Each (λ s. Each N (state_names s)) ss → Each (λ s. Each GoodLine (state_lines s)) ss
+  states-good : (ss : List State) → Each (λ (s : State). Each Known s.handlers) ss → Each (λ s. Each N (state_names s)) ss →
+      Each (λ s. Each GoodLine (state_lines s)) ss
   states-good [] k n = tt
   states-good (s ∷ ss) (k, ks) (n, ns) = (state-good s k n, states-good ss ks ns)
 
   -- ---- the protocol
 
-  pub protocol-good : (p : Protocol) → p.profile ≡ profile → Each (λ (s : State). Each Known s.handlers) p.states → Each N (names_of p) → Each GoodLine (lines_of p)
+  pub protocol-good : (p : Protocol) → p.profile ≡ profile → Each (λ (s : State). Each Known s.handlers) p.states →
+      Each N (names_of p) → Each GoodLine (lines_of p)
   protocol-good p same known (name, more) =
       let ms = map (λ (m : MessageDecl). m.name) p.messages in
       let is = map (λ (a : Param). a.name) p.infos in
@@ -178,11 +211,17 @@ module _ (profile : ℕ) where
       let l3 = names-map (λ (s : Start). s.state) start_line (λ s n. ((n, tt), tt, tt)) p.starts p3.0 in
       let l4 = flat-each GoodLine state_lines p.states (states-good p.states known (flat-parts N state_names p.states p3.1)) in
       let lines3 = map start_line p.starts ++ flat_map state_lines p.states in
-      let lines2 = map info_line p.infos ++ lines3 in
-      (((name, tt), tt, same), each-append GoodLine (map message_line p.messages) lines2 l1 (each-append GoodLine (map info_line p.infos) lines3 l2 (each-append GoodLine (map start_line p.starts) (flat_map state_lines p.states) l3 l4)))
+      let lines2 = map info_line p.infos ++ lines3 in (
+        ((name, tt), tt, same),
+        each-append GoodLine (map message_line p.messages) lines2 l1
+            (each-append GoodLine (map info_line p.infos) lines3 l2
+            (each-append GoodLine (map start_line p.starts) (flat_map state_lines p.states) l3 l4)),
+      )
 
-no-loops : (p : Protocol) → IsTree p → (p.profile ≡ 1) ⊎ (p.profile ≡ 2) → Each (λ (h : Handler). (loops (body_of h.body) ≡ 0) ⊎ (p.profile ≡ 2)) (handlers_of p)
-no-loops p tree (inl one) = each-map (λ (h : Handler). loops (body_of h.body) ≡ 0) (λ (h : Handler). (loops (body_of h.body) ≡ 0) ⊎ (p.profile ≡ 2)) (λ h e. inl e) (handlers_of p) (tree.no_loop one)
+no-loops : (p : Protocol) → IsTree p → (p.profile ≡ 1) ⊎ (p.profile ≡ 2) →
+    Each (λ (h : Handler). (loops (body_of h.body) ≡ 0) ⊎ (p.profile ≡ 2)) (handlers_of p)
+no-loops p tree (inl one) = each-map (λ (h : Handler). loops (body_of h.body) ≡ 0)
+    (λ (h : Handler). (loops (body_of h.body) ≡ 0) ⊎ (p.profile ≡ 2)) (λ h e. inl e) (handlers_of p) (tree.no_loop one)
 no-loops p tree (inr two) = any (handlers_of p)
   where
     any : (hs : List Handler) → Each (λ (h : Handler). (loops (body_of h.body) ≡ 0) ⊎ (p.profile ≡ 2)) hs
@@ -194,7 +233,10 @@ pub tree-good : (p : Protocol) → IsTree p → Each (GoodLine p.profile) (lines
 tree-good p tree =
     let hs = handlers_of p in
     let few = no-loops p tree tree.profiles in
-    let two = each-both (λ (h : Handler). eaches (body_of h.body) ≡ 0) (λ (h : Handler). (loops (body_of h.body) ≡ 0) ⊎ (p.profile ≡ 2)) hs tree.no_each few in
-    let all = each-both (λ (h : Handler). Each (λ e. fits e ≡ true) (exprs_of h)) (λ (h : Handler). (eaches (body_of h.body) ≡ 0) × ((loops (body_of h.body) ≡ 0) ⊎ (p.profile ≡ 2))) hs tree.numbers two in
+    let two = each-both (λ (h : Handler). eaches (body_of h.body) ≡ 0)
+    (λ (h : Handler). (loops (body_of h.body) ≡ 0) ⊎ (p.profile ≡ 2)) hs tree.no_each few in
+    let all = each-both (λ (h : Handler). Each (λ e. fits e ≡ true) (exprs_of h))
+    (λ (h : Handler). (eaches (body_of h.body) ≡ 0) × ((loops (body_of h.body) ≡ 0) ⊎ (p.profile ≡ 2))) hs tree.numbers
+    two in
     let known = each-map _ (Known p.profile) (λ h x. (x.0, x.1.0, x.1.1)) hs all in
     protocol-good p.profile p refl (each-flat (Known p.profile) p.states known) tree.names

@@ -1,5 +1,7 @@
 -- A token that is written is lexed as that token, whatever stands behind it, unless that goes on with it.
-use Rattle.std.proofs.Common.{◌≡◌, ℕ, zero, suc, ◌+◌, ◌-◌, ◌*◌, ◌^◌, ◌<◌, ◌≤◌, Bool, true, false, cond, ◌||◌, ◌&&◌, List, [], ◌∷◌, ◌++◌, length, take, drop, Option, Some, None, is_some, refl, sym, ap, ◌∙◌, subst, add-zero, sub-one, arith}
+use Rattle.std.proofs.Common.{◌≡◌, ℕ, zero, suc, ◌+◌, ◌-◌, ◌*◌, ◌^◌, ◌<◌, ◌≤◌, Bool, true, false, cond, ◌||◌, ◌&&◌, List, []}
+use Rattle.std.proofs.Common.{◌∷◌, ◌++◌, length, take, drop, Option, Some, None, is_some, refl, sym, ap, ◌∙◌, subst, add-zero}
+use Rattle.std.proofs.Common.{sub-one, arith}
 use Rattle.std.specs.Prelude.{not, nat_le, nat_lt, decimal}
 use Rattle.std.specs.List.{fold, list_all, prefix_len}
 use Rattle.std.specs.Option.{option_map}
@@ -7,7 +9,7 @@ use Rattle.std.proofs.Math.Seq.{drop-append_seam}
 use Rattle.std.proofs.lemmas.Bool.{and_from, and_parts, leb-true, le-leb, lt-ltb}
 use Rattle.std.proofs.lemmas.Fmt.{decimal_nonempty, digits_decimal, digits_value-decimal}
 use Rattle.std.proofs.lemmas.Str.Parse.{FoldsDigits, IsDigitsTest, IsNumeralModel, numerals_by_fold}
-use Rattle.tw_base.specs.Bits.{all_below, all_below-at}
+use Rattle.tw_base.specs.Bits.{all_below-at}
 use Rattle.tw_lex.specs.declared.token.Mark.{Mark}
 use Rattle.tw_lex.specs.declared.token.Mark.TheVariants as m
 use Rattle.tw_lex.specs.declared.token.Token.{Token}
@@ -43,7 +45,8 @@ front-step true x n xs e = let more : 1 + n ≡ suc n = omega arith in ap (λ k.
 front-step false x n xs e = absurd cc
 
 -- the longest front that passes is what passes, where the rest does not go on with it
-front-is : (p : ℕ → Bool) (xs rest : List ℕ) → list_all p xs ≡ true → Stops p rest → take (prefix_len p (xs ++ rest)) (xs ++ rest) ≡ xs
+front-is : (p : ℕ → Bool) (xs rest : List ℕ) → list_all p xs ≡ true → Stops p rest →
+    take (prefix_len p (xs ++ rest)) (xs ++ rest) ≡ xs
 front-is p [] [] h s = refl
 front-is p [] (x ∷ xs) h s = stop-step (p x) (prefix_len p xs) (x ∷ xs) s
 front-is p (x ∷ xs) rest h s =
@@ -71,7 +74,8 @@ abbrev pub begins : (ℕ → Bool) → List ℕ → Bool
 begins p [] = false
 begins p (b ∷ bs) = p b
 
-pub word-lexed : (w rest : List ℕ) → begins is_word_start w ≡ true → list_all is_word_byte w ≡ true → length w ≤ 64 → NoWord rest → lexeme (w ++ rest) ≡ Some (what.Word w, length w)
+pub word-lexed : (w rest : List ℕ) → begins is_word_start w ≡ true → list_all is_word_byte w ≡ true → length w ≤ 64 →
+    NoWord rest → lexeme (w ++ rest) ≡ Some (what.Word w, length w)
 unfolding lexeme
 word-lexed [] rest start all short s = absurd cc
 word-lexed (b ∷ bs) rest start all short s =
@@ -79,7 +83,8 @@ word-lexed (b ∷ bs) rest start all short s =
     let run = run-is (b ∷ bs) rest all s in
     cond-true (is_word_start b) (word_at (word_run bytes)) (cond (is_digit b) (number_at (word_run bytes)) (mark_at bytes)) start
     ∙ ap word_at run
-    ∙ cond-true (nat_le (length (b ∷ bs)) 64) (Some (what.Word (b ∷ bs), length (b ∷ bs))) None (le-leb (length (b ∷ bs)) 64 short)
+    ∙ cond-true (nat_le (length (b ∷ bs)) 64) (Some (what.Word (b ∷ bs), length (b ∷ bs))) None
+    (le-leb (length (b ∷ bs)) 64 short)
 
 -- ---- numbers
 
@@ -93,7 +98,9 @@ digit-below b e = let parts = and_parts (nat_le 48 b) (nat_le b 57) e in let le 
 
 -- a digit begins no word
 digit-no-start : (b : ℕ) → is_digit b ≡ true → is_word_start b ≡ false
-digit-no-start b e = implied (is_digit b) (is_word_start b) (all_below-at 58 (λ k. not (is_digit k) || not (is_word_start k)) refl b (digit-below b e)) e
+digit-no-start b e =
+    implied (is_digit b) (is_word_start b) (all_below-at 58 (λ k. not (is_digit k) || not (is_word_start k)) refl b
+    (digit-below b e)) e
 
 or-right : (a b : Bool) → b ≡ true → (a || b) ≡ true
 or-right true b e = refl
@@ -102,31 +109,39 @@ or-right false b e = e
 digit-word : (b : ℕ) → is_digit b ≡ true → is_word_byte b ≡ true
 digit-word b e = or-right (is_word_start b) (is_digit b) e
 
-pub all-imply : (p q : ℕ → Bool) → ((b : ℕ) → p b ≡ true → q b ≡ true) → (xs : List ℕ) → list_all p xs ≡ true → list_all q xs ≡ true
+pub all-imply : (p q : ℕ → Bool) → ((b : ℕ) → p b ≡ true → q b ≡ true) → (xs : List ℕ) → list_all p xs ≡ true →
+    list_all q xs ≡ true
 all-imply p q g [] h = refl
-all-imply p q g (x ∷ xs) h = let parts = and_parts (p x) (list_all p xs) h in and_from (q x) (list_all q xs) (g x parts.0) (all-imply p q g xs parts.1)
+all-imply p q g (x ∷ xs) h = let parts = and_parts (p x) (list_all p xs) h in and_from (q x) (list_all q xs) (g x parts.0)
+    (all-imply p q g xs parts.1)
 
-number-at : (ds : List ℕ) → list_all is_digit ds ≡ true → decimal_value ds < 2 ^ 64 → number_at ds ≡ Some (what.Number (decimal_value ds), length ds)
+number-at : (ds : List ℕ) → list_all is_digit ds ≡ true → decimal_value ds < 2 ^ 64 →
+    number_at ds ≡ Some (what.Number (decimal_value ds), length ds)
 number-at ds all small =
-    ap (option_map (λ n. (what.Number n, length ds))) (cond-true (list_all is_digit ds && nat_lt (decimal_value ds) (2 ^ 64)) (Some (decimal_value ds)) None
+    ap (option_map (λ n. (what.Number n, length ds))) (cond-true (list_all is_digit ds && nat_lt (decimal_value ds) (2 ^ 64))
+    (Some (decimal_value ds)) None
     (and_from (list_all is_digit ds) (nat_lt (decimal_value ds) (2 ^ 64)) all (lt-ltb (decimal_value ds) (2 ^ 64) small)))
 
-number-lexed : (ds rest : List ℕ) → 0 < length ds → list_all is_digit ds ≡ true → decimal_value ds < 2 ^ 64 → NoWord rest → lexeme (ds ++ rest) ≡ Some (what.Number (decimal_value ds), length ds)
+number-lexed : (ds rest : List ℕ) → 0 < length ds → list_all is_digit ds ≡ true → decimal_value ds < 2 ^ 64 → NoWord rest →
+    lexeme (ds ++ rest) ≡ Some (what.Number (decimal_value ds), length ds)
 unfolding lexeme
 number-lexed [] rest some all small s = absurd (omega arith)
 number-lexed (b ∷ bs) rest some all small s =
     let bytes = (b ∷ bs) ++ rest in
     let digit = (and_parts (is_digit b) (list_all is_digit bs) all).0 in
     let run = run-is (b ∷ bs) rest (all-imply is_digit is_word_byte digit-word (b ∷ bs) all) s in
-    cond-false (is_word_start b) (word_at (word_run bytes)) (cond (is_digit b) (number_at (word_run bytes)) (mark_at bytes)) (digit-no-start b digit)
+    cond-false (is_word_start b) (word_at (word_run bytes)) (cond (is_digit b) (number_at (word_run bytes)) (mark_at bytes))
+    (digit-no-start b digit)
     ∙ cond-true (is_digit b) (number_at (word_run bytes)) (mark_at bytes) digit
     ∙ ap number_at run ∙ number-at (b ∷ bs) all small
 
 digits-test : IsDigitsTest (λ ds. list_all is_digit ds ≡ true)
 digits-test = record {
   empty = refl;
-  parts = λ c cs e. let k = and_parts (is_digit c) (list_all is_digit cs) e in let d = and_parts (nat_le 48 c) (nat_le c 57) k.0 in ((leb-true 48 c d.0, leb-true c 57 d.1), k.1);
-  more = λ c cs k e. and_from (is_digit c) (list_all is_digit cs) (and_from (nat_le 48 c) (nat_le c 57) (le-leb 48 c k.0) (le-leb c 57 k.1)) e;
+  parts = λ c cs e. let k = and_parts (is_digit c) (list_all is_digit cs) e in let d =
+      and_parts (nat_le 48 c) (nat_le c 57) k.0 in ((leb-true 48 c d.0, leb-true c 57 d.1), k.1);
+  more = λ c cs k e. and_from (is_digit c) (list_all is_digit cs)
+      (and_from (nat_le 48 c) (nat_le c 57) (le-leb 48 c k.0) (le-leb c 57 k.1)) e;
 }
 
 abbrev value_after : ℕ → List ℕ → ℕ
@@ -144,7 +159,8 @@ digits-model = numerals_by_fold (λ ds. list_all is_digit ds ≡ true) digits-te
 pub decimal-digits : (n : ℕ) → n < 2 ^ 64 → list_all is_digit (decimal n) ≡ true
 decimal-digits n h = digits_decimal digits-model n h
 
-pub decimal-lexed : (n : ℕ) (rest : List ℕ) → n < 2 ^ 64 → NoWord rest → lexeme (decimal n ++ rest) ≡ Some (what.Number n, length (decimal n))
+pub decimal-lexed : (n : ℕ) (rest : List ℕ) → n < 2 ^ 64 → NoWord rest →
+    lexeme (decimal n ++ rest) ≡ Some (what.Number n, length (decimal n))
 decimal-lexed n rest h s =
     let same = digits_value-decimal digits-model n h in
     number-lexed (decimal n) rest (decimal_nonempty n h) (decimal-digits n h) (subst (λ k. k < 2 ^ 64) (sym same) h) s
@@ -157,7 +173,8 @@ none-of None e = refl
 none-of (Some x) e = absurd cc
 
 -- a mark of one byte before a byte that makes no longer mark
-one-lexed : (b c : ℕ) (cs : List ℕ) (x : Mark) → is_word_start b ≡ false → is_digit b ≡ false → single_mark b ≡ Some x → is_some (pair_mark b c) ≡ false → lexeme (b ∷ c ∷ cs) ≡ Some (what.Mark x, 1)
+one-lexed : (b c : ℕ) (cs : List ℕ) (x : Mark) → is_word_start b ≡ false → is_digit b ≡ false → single_mark b ≡ Some x →
+    is_some (pair_mark b c) ≡ false → lexeme (b ∷ c ∷ cs) ≡ Some (what.Mark x, 1)
 unfolding lexeme
 one-lexed b c cs x start digit single e =
     let bytes = b ∷ c ∷ cs in
@@ -165,7 +182,8 @@ one-lexed b c cs x start digit single e =
     ∙ cond-false (is_digit b) (number_at (word_run bytes)) (mark_at bytes) digit
     ∙ ap (λ o. or_single o b) (none-of (pair_mark b c) e) ∙ ap (option_map (λ k. (what.Mark k, 1))) single
 
-pub mark-lexed : (x : Mark) (rest : List ℕ) → Ends (what.Mark x) rest → lexeme (mark_bytes x ++ rest) ≡ Some (what.Mark x, length (mark_bytes x))
+pub mark-lexed : (x : Mark) (rest : List ℕ) → Ends (what.Mark x) rest →
+    lexeme (mark_bytes x ++ rest) ≡ Some (what.Mark x, length (mark_bytes x))
 unfolding lexeme
 mark-lexed m.Open [] e = refl
 mark-lexed m.Open (c ∷ cs) e = one-lexed 40 c cs m.Open refl refl refl e
@@ -217,7 +235,8 @@ put b bs at zero x blank is some = absurd (omega arith)
 put b bs at (suc len) x blank is some =
     let e : at + suc len ≡ at + 1 + len = omega arith in
     let after : tokens_from (suc len - 1) (at + 1) bs ≡ tokens_from 0 (at + suc len) (drop len bs) =
-    ap (λ k. tokens_from k (at + 1) bs) (sub-one (suc len)) ∙ skipped len (at + 1) bs ∙ ap (λ n. tokens_from 0 n (drop len bs)) (sym e) in
+    ap (λ k. tokens_from k (at + 1) bs) (sub-one (suc len)) ∙ skipped len (at + 1) bs
+    ∙ ap (λ n. tokens_from 0 n (drop len bs)) (sym e) in
     rw (blank, is) (ap (option_map (λ ts. token_at at (suc len) x ∷ ts)) after)
 
 -- the first byte is no blank
@@ -226,8 +245,10 @@ NoBlank [] = ⊥
 NoBlank (b ∷ bs) = is_blank b ≡ false
 
 pub one-found : (bytes rest : List ℕ) (at : ℕ) (x : What) → NoBlank bytes → lexeme (bytes ++ rest) ≡ Some (x, length bytes)
-    → tokens_from 0 at (bytes ++ rest) ≡ option_map (λ ts. token_at at (length bytes) x ∷ ts) (tokens_from 0 (at + length bytes) rest)
+    → tokens_from 0 at (bytes ++ rest) ≡ option_map (λ ts. token_at at (length bytes) x ∷ ts)
+    (tokens_from 0 (at + length bytes) rest)
 one-found [] rest at x blank is = absurd blank
 one-found (b ∷ bs) rest at x blank is =
     put b (bs ++ rest) at (length (b ∷ bs)) x blank is (omega arith)
-    ∙ ap (λ r. option_map (λ ts. token_at at (length (b ∷ bs)) x ∷ ts) (tokens_from 0 (at + length (b ∷ bs)) r)) (drop-append_seam (b ∷ bs) rest)
+    ∙ ap (λ r. option_map (λ ts. token_at at (length (b ∷ bs)) x ∷ ts) (tokens_from 0 (at + length (b ∷ bs)) r))
+    (drop-append_seam (b ∷ bs) rest)

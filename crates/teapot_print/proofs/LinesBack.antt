@@ -1,16 +1,17 @@
 -- The canonical text of some lines is lexed to lines with their tokens, numbered one by one.
-use Rattle.std.proofs.Common.{◌≡◌, ℕ, zero, suc, ◌+◌, ◌^◌, ◌<◌, ◌≤◌, Bool, true, false, cond, ◌||◌, ◌&&◌, List, [], ◌∷◌, ◌++◌, length, map, take, Option, Some, None, is_some, Result, Ok, Err, refl, sym, ap, ◌∙◌, subst, inl, inr, arith, append_assoc}
+use Rattle.std.proofs.Common.{◌≡◌, ℕ, zero, suc, ◌+◌, ◌<◌, ◌≤◌, Bool, true, false, cond, ◌||◌, ◌&&◌, List, [], ◌∷◌, ◌++◌}
+use Rattle.std.proofs.Common.{length, map, take, Some, Result, Ok, Err, refl, sym, ap, ◌∙◌, subst, inl, inr, arith}
+use Rattle.std.proofs.Common.{append_assoc}
 use Rattle.std.specs.Prelude.{◌==◌, ◌⊎◌, not, nat_le, decimal}
 use Rattle.std.specs.List.{list_all, onto_first, prefix_len}
 use Rattle.std.specs.Option.{option_map}
 use Rattle.std.proofs.lemmas.Bool.{and_from, and_parts, eqb-true, leb-true}
 use Rattle.std.proofs.lemmas.Fmt.{decimal_nonempty}
 use Rattle.tw_base.specs.Answers.{◌>>=◌}
-use Rattle.tw_base.specs.Bits.{all_below, all_below-at}
+use Rattle.tw_base.specs.Bits.{all_below-at}
 use Rattle.tw_base.specs.Lists.{Each}
 use Rattle.tw_lex.specs.declared.token.LexError.{LexError}
 use Rattle.tw_lex.specs.declared.token.LexError.TheVariants.{NotAscii}
-use Rattle.tw_lex.specs.declared.token.Lexed.{Lexed}
 use Rattle.tw_lex.specs.declared.token.Line.{Line}
 use Rattle.tw_lex.specs.declared.token.Mark.{Mark}
 use Rattle.tw_lex.specs.declared.token.Mark.TheVariants as m
@@ -18,24 +19,26 @@ use Rattle.tw_lex.specs.declared.token.Token.{Token}
 use Rattle.tw_lex.specs.declared.token.What.{What}
 use Rattle.tw_lex.specs.declared.token.What.TheVariants as what
 use Rattle.tw_lex.specs.Bytes.{is_allowed, is_blank, is_digit, is_line_feed, is_word_start, is_word_byte, code_of}
-use Rattle.tw_lex.specs.Laws.{Ends, is_longer}
-use Rattle.tw_lex.specs.Lexemes.{lexeme, pair_mark}
+use Rattle.tw_lex.specs.Laws.{Ends}
+use Rattle.tw_lex.specs.Lexemes.{lexeme}
 use Rattle.tw_lex.specs.Lines.{lexed, line_tokens, lines_from, lines_of, or_bad, tokens_from, tokens_of, with_line}
 use Rattle.teapot_tree.specs.declared.expr.Expr.{Expr}
 use Rattle.teapot_tree.specs.declared.keyword.Keyword.{Keyword}
 use Rattle.teapot_tree.specs.declared.keyword.Keyword.TheVariants as k
-use Rattle.teapot_tree.specs.Grammar.{IsName, is_letter_or_digit, starts_word}
+use Rattle.teapot_tree.specs.Grammar.{is_letter_or_digit, starts_word}
 use Rattle.teapot_tree.specs.Keywords.{spelling_of}
 use Rattle.teapot_lines.specs.declared.form.Form.{Form}
 use Rattle.teapot_lines.specs.declared.form.Form.TheVariants as f
-use Rattle.teapot_lines.specs.Seen.{Seen, Key, Named, Number, Marked, seen, seen_what}
+use Rattle.teapot_lines.specs.Seen.{Seen, Key, Named, Number, Marked, seen}
 use Rattle.teapot_lines.specs.Spelling.{spelling, fits_form}
 use Rattle.teapot_parse.specs.Given.{SpellAll}
 use Rattle.teapot_parse.specs.Trees.{Lines}
 use Rattle.teapot_print.specs.declared.printer.Last.{Last}
 use Rattle.teapot_print.specs.declared.printer.Last.TheVariants.{Begin, Opening, Word, Other}
-use Rattle.teapot_print.specs.Text.{begins_at, begins_behind, gap, is_opening, is_tight, last_of, line_text, lines_text, mark_bytes, space_if_not, spaces, text_after, token_bytes}
-use Rattle.teapot_print.proofs.Lexing.{NoBlank, NoWord, all-imply, begins, cond-false, cond-true, decimal-digits, decimal-lexed, mark-lexed, one-found, token_at, word-lexed}
+use Rattle.teapot_print.specs.Text.{begins_at, begins_behind, gap, is_opening, is_tight, last_of, line_text, lines_text}
+use Rattle.teapot_print.specs.Text.{mark_bytes, space_if_not, spaces, text_after, token_bytes}
+use Rattle.teapot_print.proofs.Lexing.{NoBlank, NoWord, all-imply, begins, cond-false, cond-true, decimal-digits, decimal-lexed}
+use Rattle.teapot_print.proofs.Lexing.{mark-lexed, one-found, token_at, word-lexed}
 use Rattle.teapot_print.proofs.Stays.{Stays, seen-again, what_of}
 
 -- ---- words
@@ -80,7 +83,8 @@ implies true c e h = e
 implies false c e h = absurd cc
 
 word-dark : (b : ℕ) → is_word_byte b ≡ true → is_dark b ≡ true
-word-dark b e = implies (is_word_byte b) (is_dark b) (all_below-at 128 (λ n. not (is_word_byte n) || is_dark n) refl b (word-below b e)) e
+word-dark b e =
+    implies (is_word_byte b) (is_dark b) (all_below-at 128 (λ n. not (is_word_byte n) || is_dark n) refl b (word-below b e)) e
 
 digit-word : (b : ℕ) → is_digit b ≡ true → is_word_byte b ≡ true
 digit-word b e = right (is_word_start b) (is_digit b) e
@@ -105,12 +109,14 @@ mark-dark _ = refl
 token-dark : (profile : ℕ) (t : Seen) → Stays profile t → Dark (token_bytes t)
 token-dark profile (Key key) h = key-dark key
 token-dark profile (Named w) h = all-imply is_letter_or_digit is_dark word-dark w h.others
-token-dark profile (Number n) h = all-imply is_digit is_dark (λ b e. word-dark b (digit-word b e)) (decimal n) (decimal-digits n h)
+token-dark profile (Number n) h = all-imply is_digit is_dark (λ b e. word-dark b (digit-word b e)) (decimal n)
+    (decimal-digits n h)
 token-dark profile (Marked mark) h = mark-dark mark
 
 -- ---- a token is lexed
 
-word-parts : (w : List ℕ) → is_word w ≡ true → (begins is_word_start w ≡ true) × (list_all is_word_byte w ≡ true) × (length w ≤ 64)
+word-parts : (w : List ℕ) → is_word w ≡ true → (begins is_word_start w ≡ true) × (list_all is_word_byte w ≡ true)
+    × (length w ≤ 64)
 word-parts w e =
     let p = and_parts (begins is_word_start w) (list_all is_word_byte w && nat_le (length w) 64) e in
     let q = and_parts (list_all is_word_byte w) (nat_le (length w) 64) p.1 in
@@ -124,8 +130,10 @@ ends-number : (n : ℕ) (rest : List ℕ) → Ends (what.Number n) rest → NoWo
 ends-number n [] e = tt
 ends-number n (b ∷ bs) e = e
 
-token-lexed : (profile : ℕ) (t : Seen) (rest : List ℕ) → Stays profile t → Ends (what_of t) rest → lexeme (token_bytes t ++ rest) ≡ Some (what_of t, length (token_bytes t))
-token-lexed profile (Key key) rest h e = let p = word-parts (spelling_of key) (key-word key) in word-lexed (spelling_of key) rest p.0 p.1 p.2 (ends-word (spelling_of key) rest e)
+token-lexed : (profile : ℕ) (t : Seen) (rest : List ℕ) → Stays profile t → Ends (what_of t) rest →
+    lexeme (token_bytes t ++ rest) ≡ Some (what_of t, length (token_bytes t))
+token-lexed profile (Key key) rest h e = let p = word-parts (spelling_of key) (key-word key) in word-lexed
+    (spelling_of key) rest p.0 p.1 p.2 (ends-word (spelling_of key) rest e)
 token-lexed profile (Named w) rest h e = word-lexed w rest (starts-begins w h.first) h.others h.short (ends-word w rest e)
 token-lexed profile (Number n) rest h e = decimal-lexed n rest h (ends-number n rest e)
 token-lexed profile (Marked mark) rest h e = mark-lexed mark rest e
@@ -135,7 +143,9 @@ dark-first : (bytes : List ℕ) → 0 < length bytes → Dark bytes → NoBlank 
 dark-first [] some h = omega arith
 dark-first (b ∷ bs) some h =
     let first = (and_parts (is_dark b) (list_all is_dark bs) h).0 in
-    let blank = (and_parts (not (b == 35)) (not (is_blank b)) (and_parts (is_allowed b) (not (b == 35) && not (is_blank b)) first).1).1 in
+    let blank =
+    (and_parts (not (b == 35)) (not (is_blank b)) (and_parts (is_allowed b)
+    (not (b == 35) && not (is_blank b)) first).1).1 in
     off (is_blank b) blank
   where
     off : (v : Bool) → not v ≡ true → v ≡ false
@@ -235,19 +245,26 @@ number-ends n [] e = tt
 number-ends n (b ∷ bs) e = e
 
 -- a space, or a token that needs none
-behind-if : (t u : Seen) (rest : List ℕ) (v : Bool) → (v ≡ true → Ends (what_of t) (token_bytes u ++ rest)) → Ends (what_of t) (space_if_not v ++ (token_bytes u ++ rest))
+behind-if : (t u : Seen) (rest : List ℕ) (v : Bool) → (v ≡ true → Ends (what_of t) (token_bytes u ++ rest)) →
+    Ends (what_of t) (space_if_not v ++ (token_bytes u ++ rest))
 behind-if t u rest true h = h refl
 behind-if t u rest false h = space-ends t (token_bytes u ++ rest)
 
-behind-key : (key : Keyword) (last : Last) (u : Seen) (rest : List ℕ) → (last ≡ Word) ⊎ (last ≡ Other) → Ends (what_of (Key key)) (gap last u ++ (token_bytes u ++ rest))
-behind-key key last u rest (inl is) = subst (λ z. Ends (what_of (Key key)) (gap z u ++ (token_bytes u ++ rest))) (sym is) (behind-if (Key key) u rest (is_tight u || is_opening u) (λ e. word-ends (spelling_of key) (token_bytes u ++ rest) (word-tight u rest e)))
-behind-key key last u rest (inr is) = subst (λ z. Ends (what_of (Key key)) (gap z u ++ (token_bytes u ++ rest))) (sym is) (behind-if (Key key) u rest (is_tight u) (λ e. word-ends (spelling_of key) (token_bytes u ++ rest) (word-tight u rest (tight-word u e))))
+behind-key : (key : Keyword) (last : Last) (u : Seen) (rest : List ℕ) → (last ≡ Word) ⊎ (last ≡ Other) →
+    Ends (what_of (Key key)) (gap last u ++ (token_bytes u ++ rest))
+behind-key key last u rest (inl is) = subst (λ z. Ends (what_of (Key key)) (gap z u ++ (token_bytes u ++ rest))) (sym is)
+    (behind-if (Key key) u rest (is_tight u || is_opening u)
+    (λ e. word-ends (spelling_of key) (token_bytes u ++ rest) (word-tight u rest e)))
+behind-key key last u rest (inr is) = subst (λ z. Ends (what_of (Key key)) (gap z u ++ (token_bytes u ++ rest))) (sym is)
+    (behind-if (Key key) u rest (is_tight u) (λ e. word-ends (spelling_of key) (token_bytes u ++ rest)
+    (word-tight u rest (tight-word u e))))
 
 key-last : (key : Keyword) → (last_of (Key key) ≡ Word) ⊎ (last_of (Key key) ≡ Other)
 key-last k.If = inr refl
 key-last _ = inl refl
 
-behind-mark : (mark : Mark) (u : Seen) (rest : List ℕ) → Ends (what.Mark mark) (gap (last_of (Marked mark)) u ++ (token_bytes u ++ rest))
+behind-mark : (mark : Mark) (u : Seen) (rest : List ℕ) → Ends (what.Mark mark)
+    (gap (last_of (Marked mark)) u ++ (token_bytes u ++ rest))
 behind-mark m.Open u rest = open-ends (token_bytes u ++ rest)
 behind-mark m.BraceOpen u rest = brace-ends (token_bytes u ++ rest)
 behind-mark m.Close u rest = behind-if (Marked m.Close) u rest (is_tight u) (mark-closing m.Close rest u)
@@ -271,8 +288,11 @@ none-ends x = tt
 ends-behind : (t : Seen) (ts : List Seen) → Ends (what_of t) (text_after (last_of t) ts)
 ends-behind t [] = none-ends (what_of t)
 ends-behind (Key key) (u ∷ us) = behind-key key (last_of (Key key)) u (text_after (last_of u) us) (key-last key)
-ends-behind (Named w) (u ∷ us) = behind-if (Named w) u (text_after (last_of u) us) (is_tight u || is_opening u) (λ e. word-ends w (token_bytes u ++ text_after (last_of u) us) (word-tight u (text_after (last_of u) us) e))
-ends-behind (Number n) (u ∷ us) = behind-if (Number n) u (text_after (last_of u) us) (is_tight u) (λ e. number-ends n (token_bytes u ++ text_after (last_of u) us) (word-tight u (text_after (last_of u) us) (tight-word u e)))
+ends-behind (Named w) (u ∷ us) = behind-if (Named w) u (text_after (last_of u) us) (is_tight u || is_opening u)
+    (λ e. word-ends w (token_bytes u ++ text_after (last_of u) us) (word-tight u (text_after (last_of u) us) e))
+ends-behind (Number n) (u ∷ us) = behind-if (Number n) u (text_after (last_of u) us) (is_tight u)
+    (λ e. number-ends n (token_bytes u ++ text_after (last_of u) us)
+    (word-tight u (text_after (last_of u) us) (tight-word u e)))
 ends-behind (Marked mark) (u ∷ us) = behind-mark mark u (text_after (last_of u) us)
 
 -- ---- the tokens of a line
@@ -281,15 +301,18 @@ ends-behind (Marked mark) (u ∷ us) = behind-mark mark u (text_after (last_of u
 abbrev pub Found : ℕ → ℕ → List ℕ → List Seen → Type 0
 Found profile at bytes ts = (found : List Token) × (tokens_from 0 at bytes ≡ Some found) × (map (seen profile) found ≡ ts)
 
-blank-found : (profile at : ℕ) (bytes : List ℕ) (ts : List Seen) → Found profile (at + 1) bytes ts → Found profile at (32 ∷ bytes) ts
+blank-found : (profile at : ℕ) (bytes : List ℕ) (ts : List Seen) → Found profile (at + 1) bytes ts →
+    Found profile at (32 ∷ bytes) ts
 unfolding tokens_from
 blank-found profile at bytes ts h = h
 
-token-found : (profile at : ℕ) (t : Seen) (rest : List ℕ) (ts : List Seen) → Stays profile t → Ends (what_of t) rest → Found profile (at + length (token_bytes t)) rest ts → Found profile at (token_bytes t ++ rest) (t ∷ ts)
+token-found : (profile at : ℕ) (t : Seen) (rest : List ℕ) (ts : List Seen) → Stays profile t → Ends (what_of t) rest →
+    Found profile (at + length (token_bytes t)) rest ts → Found profile at (token_bytes t ++ rest) (t ∷ ts)
 token-found profile at t rest ts h e (found, is, same) =
     let bytes = token_bytes t in
     let token = token_at at (length bytes) (what_of t) in
-    let one = one-found bytes rest at (what_of t) (dark-first bytes (token-some profile t h) (token-dark profile t h)) (token-lexed profile t rest h e) in (
+    let one = one-found bytes rest at (what_of t) (dark-first bytes (token-some profile t h) (token-dark profile t h))
+    (token-lexed profile t rest h e) in (
       token ∷ found,
       one ∙ ap (option_map (λ us. token ∷ us)) is,
       ap (λ s. s ∷ map (seen profile) found) (seen-again profile t h) ∙ ap (λ us. t ∷ us) same,
@@ -305,21 +328,27 @@ gap-is Opening t = inl refl
 gap-is Word t = space-is (is_tight t || is_opening t)
 gap-is Other t = space-is (is_tight t)
 
-behind-gap : (profile at : ℕ) (space bytes : List ℕ) (ts : List Seen) → (space ≡ []) ⊎ (space ≡ 32 ∷ []) → ((from : ℕ) → Found profile from bytes ts) → Found profile at (space ++ bytes) ts
+behind-gap : (profile at : ℕ) (space bytes : List ℕ) (ts : List Seen) → (space ≡ []) ⊎ (space ≡ 32 ∷ []) →
+    ((from : ℕ) → Found profile from bytes ts) → Found profile at (space ++ bytes) ts
 behind-gap profile at space bytes ts (inl none) h = subst (λ g. Found profile at (g ++ bytes) ts) (sym none) (h at)
-behind-gap profile at space bytes ts (inr one) h = subst (λ g. Found profile at (g ++ bytes) ts) (sym one) (blank-found profile at bytes ts (h (at + 1)))
+behind-gap profile at space bytes ts (inr one) h = subst (λ g. Found profile at (g ++ bytes) ts) (sym one)
+    (blank-found profile at bytes ts (h (at + 1)))
 
-text-found : (profile : ℕ) (ts : List Seen) (last : Last) (at : ℕ) → Each (Stays profile) ts → Found profile at (text_after last ts) ts
+text-found : (profile : ℕ) (ts : List Seen) (last : Last) (at : ℕ) → Each (Stays profile) ts →
+    Found profile at (text_after last ts) ts
 unfolding tokens_from
 text-found profile [] last at h = ([], refl, refl)
 text-found profile (t ∷ ts) last at (h, hs) =
     behind-gap profile at (gap last t) (token_bytes t ++ text_after (last_of t) ts) (t ∷ ts) (gap-is last t)
-    (λ from. token-found profile from t (text_after (last_of t) ts) ts h (ends-behind t ts) (text-found profile ts (last_of t) (from + length (token_bytes t)) hs))
+    (λ from. token-found profile from t (text_after (last_of t) ts) ts h (ends-behind t ts)
+    (text-found profile ts (last_of t) (from + length (token_bytes t)) hs))
 
-indent-found : (profile n : ℕ) (bytes : List ℕ) (ts : List Seen) → ((from : ℕ) → Found profile from bytes ts) → (at : ℕ) → Found profile at (spaces n ++ bytes) ts
+indent-found : (profile n : ℕ) (bytes : List ℕ) (ts : List Seen) → ((from : ℕ) → Found profile from bytes ts) → (at : ℕ) →
+    Found profile at (spaces n ++ bytes) ts
 indent-found profile zero bytes ts h at = h at
 indent-found profile (suc n) bytes ts h at =
-    blank-found profile at (32 ∷ (spaces n ++ bytes)) ts (blank-found profile (at + 1) (spaces n ++ bytes) ts (indent-found profile n bytes ts h (at + 1 + 1)))
+    blank-found profile at (32 ∷ (spaces n ++ bytes)) ts (blank-found profile (at + 1) (spaces n ++ bytes) ts
+    (indent-found profile n bytes ts h (at + 1 + 1)))
 
 -- ---- the code of a line
 
@@ -332,7 +361,8 @@ Clean bytes = list_all is_clean bytes ≡ true
 
 clean-append : (xs ys : List ℕ) → Clean xs → Clean ys → Clean (xs ++ ys)
 clean-append [] ys h e = e
-clean-append (x ∷ xs) ys h e = let p = and_parts (is_clean x) (list_all is_clean xs) h in and_from (is_clean x) (list_all is_clean (xs ++ ys)) p.0 (clean-append xs ys p.1 e)
+clean-append (x ∷ xs) ys h e = let p = and_parts (is_clean x) (list_all is_clean xs) h in and_from (is_clean x)
+    (list_all is_clean (xs ++ ys)) p.0 (clean-append xs ys p.1 e)
 
 dark-clean : (b : ℕ) → is_dark b ≡ true → is_clean b ≡ true
 dark-clean b e =
@@ -353,7 +383,8 @@ text-clean : (profile : ℕ) (ts : List Seen) (last : Last) → Each (Stays prof
 text-clean profile [] last h = refl
 text-clean profile (t ∷ ts) last (h, hs) =
     clean-append (gap last t) (token_bytes t ++ text_after (last_of t) ts) (gap-clean last t)
-    (clean-append (token_bytes t) (text_after (last_of t) ts) (all-imply is_dark is_clean dark-clean (token_bytes t) (token-dark profile t h)) (text-clean profile ts (last_of t) hs))
+    (clean-append (token_bytes t) (text_after (last_of t) ts)
+    (all-imply is_dark is_clean dark-clean (token_bytes t) (token-dark profile t h)) (text-clean profile ts (last_of t) hs))
 
 spaces-clean : (n : ℕ) → Clean (spaces n)
 spaces-clean zero = refl
@@ -370,12 +401,17 @@ all-taken p (x ∷ xs) h =
     step false n e = absurd cc
 
 code-is : (bytes : List ℕ) → Clean bytes → code_of bytes ≡ bytes
-code-is bytes h = all-taken (λ b. not (b == 35)) bytes (all-imply is_clean (λ b. not (b == 35)) (λ b e. (and_parts (is_allowed b) (not (b == 35)) e).1) bytes h)
+code-is bytes h =
+    all-taken (λ b. not (b == 35)) bytes (all-imply is_clean (λ b. not (b == 35))
+    (λ b e. (and_parts (is_allowed b) (not (b == 35)) e).1) bytes h)
 
-tokens-found : (number start : ℕ) (bytes : List ℕ) (found : List Token) → Clean bytes → tokens_from 0 start bytes ≡ Some found → line_tokens number start bytes ≡ Ok found
+tokens-found : (number start : ℕ) (bytes : List ℕ) (found : List Token) → Clean bytes →
+    tokens_from 0 start bytes ≡ Some found → line_tokens number start bytes ≡ Ok found
 tokens-found number start bytes found h is =
-    ap (λ (code : List ℕ). cond (list_all is_allowed code) (tokens_of number start code) (Err (NotAscii number))) (code-is bytes h)
-    ∙ cond-true (list_all is_allowed bytes) (tokens_of number start bytes) (Err (NotAscii number)) (all-imply is_clean is_allowed (λ b e. (and_parts (is_allowed b) (not (b == 35)) e).0) bytes h)
+    ap (λ (code : List ℕ). cond (list_all is_allowed code) (tokens_of number start code) (Err (NotAscii number)))
+    (code-is bytes h)
+    ∙ cond-true (list_all is_allowed bytes) (tokens_of number start bytes) (Err (NotAscii number))
+    (all-imply is_clean is_allowed (λ b e. (and_parts (is_allowed b) (not (b == 35)) e).0) bytes h)
     ∙ ap (or_bad number) is
 
 -- ---- lines
@@ -406,7 +442,8 @@ spelling-some : (x : Form Expr) → (t : Seen) × (ts : List Seen) × (spelling 
 spelling-some f.Begin = (_, _, refl)
 spelling-some _ = (_, _, refl)
 
-with-some : (profile number : ℕ) (found : List Token) (ls : List Line) (t : Seen) (ts : List Seen) → map (seen profile) found ≡ t ∷ ts → with_line number found ls ≡ record { number = number; tokens = found } ∷ ls
+with-some : (profile number : ℕ) (found : List Token) (ls : List Line) (t : Seen) (ts : List Seen) →
+    map (seen profile) found ≡ t ∷ ts → with_line number found ls ≡ record { number = number; tokens = found } ∷ ls
 with-some profile number [] ls t ts e = absurd cc
 with-some profile number (x ∷ xs) ls t ts e = refl
 
@@ -418,13 +455,16 @@ abbrev body : ℕ → Form Expr → List ℕ
 body begins form = spaces begins ++ text_after Begin (spelling form)
 
 regroup : (a b rest : List ℕ) → (a ++ (b ++ (10 ∷ []))) ++ rest ≡ (a ++ b) ++ (10 ∷ rest)
-regroup a b rest = append_assoc a (b ++ (10 ∷ [])) rest ∙ ap (λ z. a ++ z) (append_assoc b (10 ∷ []) rest) ∙ sym (append_assoc a b (10 ∷ rest))
+regroup a b rest = append_assoc a (b ++ (10 ∷ [])) rest ∙ ap (λ z. a ++ z) (append_assoc b (10 ∷ []) rest)
+    ∙ sym (append_assoc a b (10 ∷ rest))
 
 -- lines that are lexed to lines with these forms
 abbrev Lexes : ℕ → ℕ → ℕ → List (List ℕ) → Lines → Type 0
-Lexes profile number start pieces qs = (ls : List Line) × (lines_from number start pieces ≡ Ok ls) × SpellAll profile ls (numbered number qs)
+Lexes profile number start pieces qs = (ls : List Line) × (lines_from number start pieces ≡ Ok ls)
+    × SpellAll profile ls (numbered number qs)
 
-line-before : (profile number start : ℕ) (bytes : List ℕ) (pieces : List (List ℕ)) (q : ℕ × Form Expr) (qs : Lines) → Clean bytes → Back profile q → Found profile start bytes (spelling q.1)
+line-before : (profile number start : ℕ) (bytes : List ℕ) (pieces : List (List ℕ)) (q : ℕ × Form Expr) (qs : Lines) →
+    Clean bytes → Back profile q → Found profile start bytes (spelling q.1)
     → Lexes profile (number + 1) (start + length bytes + 1) pieces qs → Lexes profile number start (bytes ∷ pieces) (q ∷ qs)
 unfolding lines_from
 line-before profile number start bytes pieces q qs clean back (found, is, same) (ls, more, spell) =
@@ -432,13 +472,15 @@ line-before profile number start bytes pieces q qs clean back (found, is, same) 
     let one = tokens-found number start bytes found clean is in
     let line : Line = record { number = number; tokens = found } in (
       line ∷ ls,
-      ap (λ (r : Result (List Token) LexError). r >>= λ ts. lines_from (number + 1) (start + length bytes + 1) pieces >>= λ rest. Ok (with_line number ts rest)) one
+      ap (λ (r : Result (List Token) LexError). r >>= λ ts. lines_from (number + 1) (start + length bytes + 1) pieces >>=
+          λ rest. Ok (with_line number ts rest)) one
           ∙ ap (λ (r : Result (List Line) LexError). r >>= λ rest. Ok (with_line number found rest)) more
           ∙ ap Ok (with-some profile number found ls some.0 some.1 (same ∙ some.2)),
       (refl, back.0, same, spell),
     )
 
-pub lines-lexed : (profile : ℕ) (qs : Lines) (begins number start : ℕ) → Each (Back profile) qs → Lexes profile number start (lines_of (lines_text begins qs)) qs
+pub lines-lexed : (profile : ℕ) (qs : Lines) (begins number start : ℕ) → Each (Back profile) qs →
+    Lexes profile number start (lines_of (lines_text begins qs)) qs
 unfolding lines_from
 lines-lexed profile [] begins number start h = ([], refl, tt)
 lines-lexed profile (q ∷ qs) begins number start (h, hs) =
@@ -446,13 +488,19 @@ lines-lexed profile (q ∷ qs) begins number start (h, hs) =
     let more = begins_behind begins q.1 in
     let bytes = body n q.1 in
     let rest = lines_text more qs in
-    let clean = clean-append (spaces n) (text_after Begin (spelling q.1)) (spaces-clean n) (text-clean profile (spelling q.1) Begin h.1) in
-    let cut : lines_of (line_text n q.1 ++ rest) ≡ bytes ∷ lines_of rest = ap lines_of (regroup (spaces n) (text_after Begin (spelling q.1)) rest) ∙ first-line bytes rest clean in
-    let found = indent-found profile n (text_after Begin (spelling q.1)) (spelling q.1) (λ from. text-found profile (spelling q.1) Begin from h.1) start in
-    let all = line-before profile number start bytes (lines_of rest) q qs clean h found (lines-lexed profile qs more (number + 1) (start + length bytes + 1) hs) in
+    let clean = clean-append (spaces n) (text_after Begin (spelling q.1)) (spaces-clean n)
+    (text-clean profile (spelling q.1) Begin h.1) in
+    let cut : lines_of (line_text n q.1 ++ rest) ≡ bytes ∷ lines_of rest =
+    ap lines_of (regroup (spaces n) (text_after Begin (spelling q.1)) rest) ∙ first-line bytes rest clean in
+    let found = indent-found profile n (text_after Begin (spelling q.1)) (spelling q.1)
+    (λ from. text-found profile (spelling q.1) Begin from h.1) start in
+    let all = line-before profile number start bytes (lines_of rest) q qs clean h found
+    (lines-lexed profile qs more (number + 1) (start + length bytes + 1) hs) in
     subst (λ pieces. Lexes profile number start pieces (q ∷ qs)) (sym cut) all
 
 -- a text, of which the lines are known
-pub text-lexed : (text : List ℕ) (ls : List Line) → lines_from 1 0 (lines_of text) ≡ Ok ls → lexed text ≡ Ok (record { all = length (lines_of text); list = ls })
+pub text-lexed : (text : List ℕ) (ls : List Line) → lines_from 1 0 (lines_of text) ≡ Ok ls →
+    lexed text ≡ Ok (record { all = length (lines_of text); list = ls })
 unfolding lexed
-text-lexed text ls e = ap (λ (r : Result (List Line) LexError). r >>= λ rest. Ok (record { all = length (lines_of text); list = rest })) e
+text-lexed text ls e =
+    ap (λ (r : Result (List Line) LexError). r >>= λ rest. Ok (record { all = length (lines_of text); list = rest })) e

@@ -1,6 +1,7 @@
 -- Tokens that are read back as they are written, and that those of each form are.
-use Rattle.std.proofs.Common.{◌≡◌, ℕ, ◌+◌, ◌^◌, ◌<◌, Bool, true, false, cond, ◌&&◌, ◌||◌, List, [], ◌∷◌, ◌++◌, map, Option, Some, None, refl, sym, ap, ◌∙◌, subst, inl, inr, arith}
-use Rattle.std.specs.Prelude.{◌==◌, ◌⊎◌, nat_lt}
+use Rattle.std.proofs.Common.{◌≡◌, ℕ, ◌+◌, ◌^◌, ◌<◌, Bool, true, false, List, [], ◌∷◌, ◌++◌, map, Option, Some, None, refl, sym}
+use Rattle.std.proofs.Common.{ap, ◌∙◌, subst, inl, inr, arith}
+use Rattle.std.specs.Prelude.{◌⊎◌}
 use Rattle.std.specs.List.{list_all}
 use Rattle.std.proofs.lemmas.Bool.{and_from, and_parts, ltb-true}
 use Rattle.tw_base.specs.Lists.{Each}
@@ -32,9 +33,11 @@ use Rattle.teapot_lines.specs.declared.form.Reach.{Reach}
 use Rattle.teapot_lines.specs.declared.form.Reach.TheVariants as r
 use Rattle.teapot_lines.specs.declared.form.Typed.{Typed}
 use Rattle.teapot_lines.specs.Exprs.{spelled, spelled_step, Way, Infix, Before, way, two_spelled}
-use Rattle.teapot_lines.specs.Parts.{tails, spelled_list, spelled_param, spelled_name, spelled_type, spelled_answers, word_of, tag_word, chan_number}
+use Rattle.teapot_lines.specs.Parts.{tails, spelled_list, spelled_param, spelled_name, spelled_type, spelled_answers, word_of}
+use Rattle.teapot_lines.specs.Parts.{tag_word, chan_number}
 use Rattle.teapot_lines.specs.Seen.{Seen, Key, Named, Number, Marked, seen_what, seen_word}
-use Rattle.teapot_lines.specs.Spelling.{spelling, fits_form, spelled_cont, spelled_profile, spelled_carries, start_word, send_word}
+use Rattle.teapot_lines.specs.Spelling.{spelling, fits_form, spelled_cont, spelled_profile, spelled_carries, start_word}
+use Rattle.teapot_lines.specs.Spelling.{send_word}
 use Rattle.teapot_lines.proofs.Spells.{spelled-roll}
 use Rattle.teapot_parse.proofs.Builds.{each-parts}
 use Rattle.teapot_parse.proofs.Goods.{form_exprs, form_words, answer_words, typed_name, each-append}
@@ -114,10 +117,14 @@ module _ (profile : ℕ) (which : (profile ≡ 1) ⊎ (profile ≡ 2)) where
   way-stays _ = tt
 
   two-stay : (w : Way) (ts us : List Seen) → WayStays w → Each S ts → Each S us → Each S (two_spelled w ts us)
-  two-stay (Infix mark) ts us h x z = each-append S (Marked m.Open ∷ ts) ((Marked mark ∷ us) ++ (Marked m.Close ∷ [])) (tt, x) (each-append S (Marked mark ∷ us) (Marked m.Close ∷ []) (tt, z) (tt, tt))
-  two-stay (Before key) ts us h x z = each-append S (Key key ∷ Marked m.Open ∷ ts) ((Marked m.Comma ∷ us) ++ (Marked m.Close ∷ [])) (h, (tt, x)) (each-append S (Marked m.Comma ∷ us) (Marked m.Close ∷ []) (tt, z) (tt, tt))
+  two-stay (Infix mark) ts us h x z = each-append S (Marked m.Open ∷ ts) ((Marked mark ∷ us) ++ (Marked m.Close ∷ [])) (tt, x)
+      (each-append S (Marked mark ∷ us) (Marked m.Close ∷ []) (tt, z) (tt, tt))
+  two-stay (Before key) ts us h x z = each-append S (Key key ∷ Marked m.Open ∷ ts)
+      ((Marked m.Comma ∷ us) ++ (Marked m.Close ∷ [])) (h, (tt, x))
+      (each-append S (Marked m.Comma ∷ us) (Marked m.Close ∷ []) (tt, z) (tt, tt))
 
-  one-stays : (key : Keyword) (ts : List Seen) → in_both key ≡ true → Each S ts → Each S ((Key key ∷ Marked m.Open ∷ ts) ++ (Marked m.Close ∷ []))
+  one-stays : (key : Keyword) (ts : List Seen) → in_both key ≡ true → Each S ts →
+      Each S ((Key key ∷ Marked m.Open ∷ ts) ++ (Marked m.Close ∷ []))
   one-stays key ts e h = each-append S (Key key ∷ Marked m.Open ∷ ts) (Marked m.Close ∷ []) (keys key e, (tt, h)) (tt, tt)
 
   names-roll : (x : Expr-F Expr) → names_in (roll-Expr x) ≡ names_step (map-Expr Expr (List Name) names_in x)
@@ -137,7 +144,8 @@ module _ (profile : ℕ) (which : (profile ≡ 1) ⊎ (profile ≡ 2)) where
   abbrev whole_of : Expr-F Part → Expr-F Expr
   whole_of = map-Expr Part Expr (λ p. p.0)
 
-  level : (x : Expr-F Part) → Each (IsName profile) (names_step (map-Expr Expr (List Name) names_in (whole_of x))) → fits_step (map-Expr Expr Bool fits (whole_of x)) ≡ true
+  level : (x : Expr-F Part) → Each (IsName profile) (names_step (map-Expr Expr (List Name) names_in (whole_of x))) →
+      fits_step (map-Expr Expr Bool fits (whole_of x)) ≡ true
       → Each S (spelled_step (map-Expr Expr (List Seen) spelled (whole_of x)))
   level (Expr-F.Number n) h e = let small = ltb-true n (2 ^ 32) e in (omega arith, tt)
   level Expr-F.True h e = (keys k.True refl, tt)
@@ -156,18 +164,21 @@ module _ (profile : ℕ) (which : (profile ≡ 1) ⊎ (profile ≡ 2)) where
       two-stay (way op) (spelled x.0) (spelled z.0) (way-stays op) (x.1 names.0 numbers.0) (z.1 names.1 numbers.1)
 
   at_level : (x : Expr-F Part) → Good (roll-Expr (whole_of x))
-  at_level x h e = subst (Each S) (sym (spelled-roll (whole_of x))) (level x (subst (Each (IsName profile)) (names-roll (whole_of x)) h) (sym (fits-roll (whole_of x)) ∙ e))
+  at_level x h e = subst (Each S) (sym (spelled-roll (whole_of x)))
+      (level x (subst (Each (IsName profile)) (names-roll (whole_of x)) h) (sym (fits-roll (whole_of x)) ∙ e))
 
   expr-stays : (e : Expr) → GoodExpr profile e → Each S (spelled e)
   expr-stays e h = ind-Expr Good (λ x z is. subst (λ v. Good (roll-Expr v)) is (at_level z)) e h.0 h.1
 
   -- ---- lists
 
-  tails-stay : {A : Type 0} (spell : A → List Seen) (P : A → Type 0) → ((x : A) → P x → Each S (spell x)) → (xs : List A) → Each P xs → Each S (tails spell xs)
+  tails-stay : {A : Type 0} (spell : A → List Seen) (P : A → Type 0) → ((x : A) → P x → Each S (spell x)) → (xs : List A) →
+      Each P xs → Each S (tails spell xs)
   tails-stay spell P go [] h = tt
   tails-stay spell P go (x ∷ xs) (h, hs) = (tt, each-append S (spell x) (tails spell xs) (go x h) (tails-stay spell P go xs hs))
 
-  list-stays : {A : Type 0} (spell : A → List Seen) (P : A → Type 0) → ((x : A) → P x → Each S (spell x)) → (xs : List A) → Each P xs → Each S (spelled_list spell xs)
+  list-stays : {A : Type 0} (spell : A → List Seen) (P : A → Type 0) → ((x : A) → P x → Each S (spell x)) → (xs : List A) →
+      Each P xs → Each S (spelled_list spell xs)
   list-stays spell P go [] h = tt
   list-stays spell P go (x ∷ xs) (h, hs) = each-append S (spell x) (tails spell xs) (go x h) (tails-stay spell P go xs hs)
 
@@ -203,14 +214,16 @@ module _ (profile : ℕ) (which : (profile ≡ 1) ⊎ (profile ≡ 2)) where
   carries-stay false = tt
 
   types-stay : (ys : List ValType) → Each S (spelled_list spelled_type ys)
-  types-stay ys = list-stays spelled_type (λ ty. Unit {0}) (λ ty u. (type-stays ty, tt)) ys (each-any (λ ty. Unit {0}) (λ ty. tt) ys)
+  types-stay ys = list-stays spelled_type (λ ty. Unit {0}) (λ ty u. (type-stays ty, tt)) ys
+      (each-any (λ ty. Unit {0}) (λ ty. tt) ys)
 
   params-good : (ps : List Typed) → Each (IsName profile) (map typed_name ps) → Each (λ (p : Typed). IsName profile p.name) ps
   params-good [] h = tt
   params-good (p ∷ ps) (h, hs) = (h, params-good ps hs)
 
   params-stay : (ps : List Typed) → Each (IsName profile) (map typed_name ps) → Each S (spelled_list spelled_param ps)
-  params-stay ps h = list-stays spelled_param (λ (p : Typed). IsName profile p.name) (λ p e. (e, (type-stays p.ty, tt))) ps (params-good ps h)
+  params-stay ps h = list-stays spelled_param (λ (p : Typed). IsName profile p.name) (λ p e. (e, (type-stays p.ty, tt))) ps
+      (params-good ps h)
 
   names-stay : (ns : List Name) → Each (IsName profile) ns → Each S (spelled_list spelled_name ns)
   names-stay ns h = list-stays spelled_name (IsName profile) (λ n e. (e, tt)) ns h
@@ -222,7 +235,8 @@ module _ (profile : ℕ) (which : (profile ≡ 1) ⊎ (profile ≡ 2)) where
   cont-stays None h = (tt, tt)
   cont-stays (Some w) h = (tt, (h.0, (tt, tt)))
 
-  answers-stay : (w : Answers) (ts : List Seen) → Each (IsName profile) (answer_words w) → Each S ts → Each S (spelled_answers w ++ ts)
+  answers-stay : (w : Answers) (ts : List Seen) → Each (IsName profile) (answer_words w) → Each S ts →
+      Each S (spelled_answers w ++ ts)
   answers-stay a.RdFault ts h rest = (keys k.RdFault refl, rest)
   answers-stay a.WrFault ts h rest = (keys k.WrFault refl, rest)
   answers-stay (a.Named n) ts h rest = (h.0, rest)
@@ -237,18 +251,43 @@ module _ (profile : ℕ) (which : (profile ≡ 1) ⊎ (profile ≡ 2)) where
   -- ---- forms
 
   pub form-stays : (x : Form Expr) → GoodForm profile x → Each S (spelling x)
-  form-stays (f.Protocol n p) (ws, es, fit) = (keys k.Protocol refl, (ws.0, profile-stays p (subst (λ z. (z ≡ 1) ⊎ (z ≡ 2)) (sym fit) which)))
-  form-stays (f.Message n ys ch b) (ws, es, fit) =
-      (keys k.Message refl, (ws.0, (tt, each-append S (spelled_list spelled_type ys) (Marked m.Close ∷ Number (chan_number ch) ∷ spelled_carries b) (types-stay ys) (tt, (chan-stays ch, carries-stay b)))))
+  form-stays (f.Protocol n p) (ws, es, fit) = (
+    keys k.Protocol refl,
+    (ws.0, profile-stays p (subst (λ z. (z ≡ 1) ⊎ (z ≡ 2)) (sym fit) which)),
+  )
+  form-stays (f.Message n ys ch b) (ws, es, fit) = (
+    keys k.Message refl,
+    (
+      ws.0,
+      (
+        tt,
+        each-append S (spelled_list spelled_type ys)
+            (Marked m.Close ∷ Number (chan_number ch) ∷ spelled_carries b) (types-stay ys)
+            (tt, (chan-stays ch, carries-stay b)),
+      ),
+    ),
+  )
   form-stays (f.Info n ty) (ws, es, fit) = (keys k.Info refl, (ws.0, (type-stays ty, tt)))
   form-stays (f.Start h n tag) (ws, es, fit) = (start-stays h, (ws.0, (tag-stays tag, tt)))
   form-stays (f.State n ps ct) (ws, es, fit) =
-      let parts = each-parts (IsName profile) (map typed_name ps) (option_words ct) ws.1 in
-      (keys k.State refl, (ws.0, (tt, each-append S (spelled_list spelled_param ps) (spelled_cont ct) (params-stay ps parts.0) (cont-stays ct parts.1))))
+      let parts = each-parts (IsName profile) (map typed_name ps) (option_words ct) ws.1 in (
+        keys k.State refl,
+        (
+          ws.0,
+          (
+            tt,
+            each-append S (spelled_list spelled_param ps) (spelled_cont ct) (params-stay ps parts.0)
+                (cont-stays ct parts.1),
+          ),
+        ),
+      )
   form-stays (f.On w ns) (ws, es, fit) =
       let parts = each-parts (IsName profile) (answer_words w) ns ws in
-      let rest = each-append S (spelled_list spelled_name ns) (Marked m.Close ∷ []) (names-stay ns parts.1) (tt, tt) in
-      (keys k.On refl, answers-stay w (Marked m.Open ∷ (spelled_list spelled_name ns ++ (Marked m.Close ∷ []))) parts.0 (tt, rest))
+      let rest = each-append S (spelled_list spelled_name ns) (Marked m.Close ∷ []) (names-stay ns parts.1) (tt, tt) in (
+        keys k.On refl,
+        answers-stay w (Marked m.Open ∷ (spelled_list spelled_name ns ++ (Marked m.Close ∷ []))) parts.0
+            (tt, rest),
+      )
   form-stays f.Default h = (keys k.Default refl, tt)
   form-stays (f.Local n ty) (ws, es, fit) = (keys k.Local refl, (ws.0, (type-stays ty, tt)))
   form-stays f.Begin h = (keys k.Begin refl, tt)
@@ -257,13 +296,34 @@ module _ (profile : ℕ) (which : (profile ≡ 1) ⊎ (profile ≡ 2)) where
   form-stays f.Else h = (keys k.Else refl, tt)
   form-stays (f.Assign n e) (ws, es, fit) = (ws.0, (tt, each-append S (spelled e) [] (expr-stays e es.0) tt))
   form-stays (f.Send q e n xs) (ws, es, fit) =
-      let args = each-append S (tails spelled xs) (Marked m.Close ∷ []) (tails-stay spelled (GoodExpr profile) expr-stays xs es.1) (tt, tt) in
-      (send-stays q, (tt, each-append S (spelled e) (Marked m.Comma ∷ Named n ∷ (tails spelled xs ++ (Marked m.Close ∷ []))) (expr-stays e es.0) (tt, (ws.0, args))))
+      let args = each-append S (tails spelled xs) (Marked m.Close ∷ [])
+      (tails-stay spelled (GoodExpr profile) expr-stays xs es.1) (tt, tt) in (
+        send-stays q,
+        (
+          tt,
+          each-append S (spelled e) (Marked m.Comma ∷ Named n ∷ (tails spelled xs ++ (Marked m.Close ∷ [])))
+              (expr-stays e es.0) (tt, (ws.0, args)),
+        ),
+      )
   form-stays (f.SetTag tag) (ws, es, fit) = (keys k.SetTag refl, (tt, (tag-stays tag, (tt, tt))))
-  form-stays (f.SetState n xs) (ws, es, fit) =
-      (keys k.SetState refl, (tt, (ws.0, (tt, each-append S (spelled_list spelled xs) (Marked m.BraceClose ∷ Marked m.Close ∷ []) (exprs-stay xs es) (tt, (tt, tt))))))
+  form-stays (f.SetState n xs) (ws, es, fit) = (
+    keys k.SetState refl,
+    (
+      tt,
+      (
+        ws.0,
+        (
+          tt,
+          each-append S (spelled_list spelled xs) (Marked m.BraceClose ∷ Marked m.Close ∷ [])
+              (exprs-stay xs es) (tt, (tt, tt)),
+        ),
+      ),
+    ),
+  )
   form-stays (f.Suspend l n xs p) (ws, es, fit) =
-      let rest = each-append S (spelled_list spelled xs) (Marked m.Semicolon ∷ Named p ∷ Marked m.BraceClose ∷ Marked m.Close ∷ []) (exprs-stay xs es) (tt, (ws.1.1.0, (tt, (tt, tt)))) in
+      let rest =
+      each-append S (spelled_list spelled xs) (Marked m.Semicolon ∷ Named p ∷ Marked m.BraceClose ∷ Marked m.Close ∷ [])
+      (exprs-stay xs es) (tt, (ws.1.1.0, (tt, (tt, tt)))) in
       (keys k.Suspend refl, (tt, (ws.0, (tt, (ws.1.0, (tt, rest))))))
   form-stays (f.Resume n) (ws, es, fit) = (keys k.Resume refl, (tt, (ws.0, (tt, tt))))
   form-stays (f.Error n) (ws, es, fit) = (keys k.Error refl, (tt, (ws.0, (tt, tt))))

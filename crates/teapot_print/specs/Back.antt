@@ -13,4 +13,5 @@ use Rattle.teapot_print.specs.Text.{canon}
 abbrev pub CanonIsReadBack : Type 0
 CanonIsReadBack =
     (p : Protocol) → IsTree p
-    → (found : Lexed) × (q : Protocol) × (lexed (canon p) ≡ Ok found) × ((after : ℕ) → parsed found.list after ≡ Ok q) × IsTree q × (bare_protocol q ≡ bare_protocol p)
+    → (found : Lexed) × (q : Protocol) × (lexed (canon p) ≡ Ok found) × ((after : ℕ) → parsed found.list after ≡ Ok q)
+    × IsTree q × (bare_protocol q ≡ bare_protocol p)

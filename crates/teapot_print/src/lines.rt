@@ -1,7 +1,8 @@
 ghost use Rattle.std.specs.Prelude.{◌≡◌, ◌∷◌, ◌++◌, [], map, OnOk};
 ghost use Rattle.teapot_lines.specs.Seen.{Key, Named, Marked};
 ghost use Rattle.teapot_lines.specs.Exprs.{spelled};
-ghost use Rattle.teapot_lines.specs.Parts.{tails, spelled_list, spelled_name, spelled_param, spelled_type, word_of, tag_word, chan_number};
+ghost use Rattle.teapot_lines.specs.Parts.{tails, spelled_list, spelled_name, spelled_param, spelled_type, word_of, tag_word};
+ghost use Rattle.teapot_lines.specs.Parts.{chan_number};
 ghost use Rattle.teapot_lines.specs.Spelling.{send_word, spelled_carries, spelled_cont, spelled_bracketed};
 ghost use Rattle.teapot_parse.specs.Trees.{typed_of, handler_form};
 ghost use Rattle.teapot_print.specs.Printing.{put, put_all, put_line, begun, ended};
@@ -280,7 +281,8 @@ impl Printer {
 
     #[tactic(auto, using(crate::proofs::Puts::put_all_append))]
     fn in_brackets(&mut self, args: &[Name]) -> Result<(), Memory>
-        ensures { OnOk result (self.new ≡ put_all self.old (Marked Mark.Open ∷ (spelled_list spelled_name args.now ++ (Marked Mark.Close ∷ [])))) }
+        ensures { OnOk result
+            (self.new ≡ put_all self.old (Marked Mark.Open ∷ (spelled_list spelled_name args.now ++ (Marked Mark.Close ∷ [])))) }
     {
         self.mark(Mark::Open)?;
         self.names(args)?;
@@ -289,7 +291,10 @@ impl Printer {
 
     #[tactic(auto, using(crate::proofs::Puts::put_all_append))]
     fn fault_line(&mut self, fault: Keyword, args: &[Name]) -> Result<(), Memory>
-        ensures { OnOk result (self.new ≡ ended (put_all (begun self.old self.old.begins) (Key Keyword.On ∷ Key fault ∷ Marked Mark.Open ∷ (spelled_list spelled_name args.now ++ (Marked Mark.Close ∷ [])))) self.old.begins) }
+        ensures { OnOk result
+            (self.new ≡ ended (put_all (begun self.old self.old.begins)
+            (Key Keyword.On ∷ Key fault ∷ Marked Mark.Open ∷ (spelled_list spelled_name args.now ++ (Marked Mark.Close ∷ []))))
+            self.old.begins) }
     {
         let begins = self.begins;
         self.begin(begins)?;
@@ -301,7 +306,10 @@ impl Printer {
 
     #[tactic(auto, using(crate::proofs::Puts::put_all_append))]
     fn on_line(&mut self, name: &Name, args: &[Name]) -> Result<(), Memory>
-        ensures { OnOk result (self.new ≡ ended (put_all (begun self.old self.old.begins) (Key Keyword.On ∷ Named name.now ∷ Marked Mark.Open ∷ (spelled_list spelled_name args.now ++ (Marked Mark.Close ∷ [])))) self.old.begins) }
+        ensures { OnOk result
+            (self.new ≡ ended (put_all (begun self.old self.old.begins)
+            (Key Keyword.On ∷ Named name.now ∷ Marked Mark.Open ∷
+            (spelled_list spelled_name args.now ++ (Marked Mark.Close ∷ [])))) self.old.begins) }
     {
         let begins = self.begins;
         self.begin(begins)?;
@@ -445,7 +453,9 @@ impl Printer {
     }
 
     fn name_line(&mut self, key: Keyword, name: &Name) -> Result<(), Memory>
-        ensures { OnOk result (self.new ≡ ended (put_all (begun self.old self.old.begins) (Key key ∷ spelled_bracketed name.now)) self.old.begins) }
+        ensures { OnOk result
+            (self.new ≡ ended (put_all (begun self.old self.old.begins) (Key key ∷ spelled_bracketed name.now))
+            self.old.begins) }
     {
         let begins = self.begins;
         self.begin(begins)?;

@@ -1,7 +1,8 @@
 ghost use Rattle.std.specs.Prelude.{◌≡◌, ◌∷◌, ◌++◌, [], OnOk, IfOk, map};
 ghost use Rattle.std.specs.List.{flat_map};
 ghost use Rattle.teapot_tree.specs.Bodies.{Body, body_of, put as put_stmt};
-ghost use Rattle.teapot_parse.specs.Trees.{body_lines, local_line, handler_lines, state_lines, message_line, info_line, start_line, lines_of};
+ghost use Rattle.teapot_parse.specs.Trees.{body_lines, local_line, handler_lines, state_lines, message_line, info_line};
+ghost use Rattle.teapot_parse.specs.Trees.{start_line, lines_of};
 ghost use Rattle.teapot_print.specs.Text.{canon};
 ghost use Rattle.teapot_print.specs.Printing.{put_lines};
 
@@ -25,7 +26,8 @@ impl Printer {
     // What follows the line of a statement that holds others.
     #[cycle(statements)]
     fn block(&mut self, stmts: &[Stmt]) -> Result<(), Memory>
-        ensures { OnOk result (self.new ≡ put_lines self.old ((0, Form.Begin) ∷ (body_lines (body_of stmts.now) ++ (0, Form.End) ∷ []))) }
+        ensures { OnOk result (self.new ≡ put_lines self.old
+            ((0, Form.Begin) ∷ (body_lines (body_of stmts.now) ++ (0, Form.End) ∷ []))) }
     {
         self.begin_line()?;
         self.statements(stmts)?;
@@ -34,7 +36,8 @@ impl Printer {
 
     #[cycle(statements)]
     fn statement(&mut self, stmt: &Stmt) -> Result<(), Memory>
-        ensures { OnOk result ((b : Body) → put_lines self.old (body_lines (put_stmt stmt.now b)) ≡ put_lines self.new (body_lines b)) }
+        ensures { OnOk result ((b : Body) → put_lines self.old (body_lines (put_stmt stmt.now b))
+            ≡ put_lines self.new (body_lines b)) }
     {
         match &stmt.what {
             Do::Assign(name, value) => self.assign_line(name, value),

@@ -21,34 +21,48 @@ none_seen same line l [] h = h
 none_seen same line l (x ∷ xs) (inl h) = let k : false ≡ true = h.1 in absurd (cc)
 none_seen same line l (x ∷ xs) (inr h) = none_seen same line l xs h
 
-module _ {X K : Type 0} (same : X → X → Bool) (line : X → ℕ) (key : X → K) (is : (x y : X) → (same x y ≡ true) ↔ (key y ≡ key x)) where
+module _ {X K : Type 0} (same : X → X → Bool) (line : X → ℕ) (key : X → K)
+    (is : (x y : X) → (same x y ≡ true) ↔ (key y ≡ key x)) where
   abbrev Pairs : List X → List (K × ℕ)
   Pairs xs = map (λ x. (key x, line x)) xs
 
   -- one more that stands before them
-  split : (seen : List X) (x : X) (l : ℕ) (xs : List X) → Earlier same line (seen ++ x ∷ []) l xs → Earlier same line seen l xs ⊎ Has line key (key x) l xs
+  split : (seen : List X) (x : X) (l : ℕ) (xs : List X) → Earlier same line (seen ++ x ∷ []) l xs →
+      Earlier same line seen l xs ⊎ Has line key (key x) l xs
   split seen x l [] h = absurd h
-  split seen x l (y ∷ xs) (inl h) = elim (or-split (list_any (same y) seen) (list_any (same y) (x ∷ [])) (sym (list_any-append (same y) seen (x ∷ [])) ∙ h.1)) [
-    | inl k ↦ inl (inl (h.0, k))
-    | inr k ↦ elim (or-split (same y x) false k) [
-      | inl j ↦ inr (inl (sym ((is y x).0 j), h.0))
-      | inr j ↦ absurd (cc)
-    ]
-  ]
+  split seen x l (y ∷ xs) (inl h) =
+      elim (or-split (list_any (same y) seen) (list_any (same y) (x ∷ []))
+      (sym (list_any-append (same y) seen (x ∷ [])) ∙ h.1)) [
+        | inl k ↦ inl (inl (h.0, k))
+        | inr k ↦ elim (or-split (same y x) false k) [
+          | inl j ↦ inr (inl (sym ((is y x).0 j), h.0))
+          | inr j ↦ absurd (cc)
+        ]
+      ]
   split seen x l (y ∷ xs) (inr h) = elim (split seen x l xs h) [ inl k ↦ inl (inr k) | inr k ↦ inr (inr k) ]
 
-  join-left : (seen : List X) (x : X) (l : ℕ) (xs : List X) → Earlier same line seen l xs → Earlier same line (seen ++ x ∷ []) l xs
+  join-left : (seen : List X) (x : X) (l : ℕ) (xs : List X) → Earlier same line seen l xs →
+      Earlier same line (seen ++ x ∷ []) l xs
   join-left seen x l [] h = absurd h
-  join-left seen x l (y ∷ xs) (inl h) = inl (h.0, list_any-append (same y) seen (x ∷ []) ∙ or-left (list_any (same y) seen) (list_any (same y) (x ∷ [])) h.1)
+  join-left seen x l (y ∷ xs) (inl h) = inl (
+    h.0,
+    list_any-append (same y) seen (x ∷ [])
+        ∙ or-left (list_any (same y) seen) (list_any (same y) (x ∷ [])) h.1,
+  )
   join-left seen x l (y ∷ xs) (inr h) = inr (join-left seen x l xs h)
 
   join-right : (seen : List X) (x : X) (l : ℕ) (xs : List X) → Has line key (key x) l xs → Earlier same line (seen ++ x ∷ []) l xs
   join-right seen x l [] h = absurd h
   join-right seen x l (y ∷ xs) (inl h) =
-      inl (h.1, list_any-append (same y) seen (x ∷ []) ∙ or-right (list_any (same y) seen) (list_any (same y) (x ∷ [])) (or-left (same y x) false ((is y x).1 (sym h.0))))
+      inl (
+        h.1,
+        list_any-append (same y) seen (x ∷ []) ∙ or-right (list_any (same y) seen) (list_any (same y) (x ∷ []))
+            (or-left (same y x) false ((is y x).1 (sym h.0))),
+      )
   join-right seen x l (y ∷ xs) (inr h) = inr (join-right seen x l xs h)
 
-  at : (seen : List X) (x : X) (xs : List X) → Lists (again same line seen (x ∷ xs)) (λ l. In l (line_if (list_any (same x) seen) (line x)) ⊎ In l (again same line (seen ++ x ∷ []) xs))
+  at : (seen : List X) (x : X) (xs : List X) → Lists (again same line seen (x ∷ xs))
+      (λ l. In l (line_if (list_any (same x) seen) (line x)) ⊎ In l (again same line (seen ++ x ∷ []) xs))
   at seen x xs = lists-both (line_if (list_any (same x) seen) (line x)) (again same line (seen ++ x ∷ []) xs)
 
   forth : (seen xs : List X) (l : ℕ) → In l (again same line seen xs) → Earlier same line seen l xs ⊎ Again (Pairs xs) l

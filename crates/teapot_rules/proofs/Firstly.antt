@@ -1,10 +1,13 @@
 -- The first of the least lines is the first break.
-use Rattle.std.proofs.Common.{◌≡◌, ℕ, ◌<◌, ◌≤◌, min, nat_le, Bool, true, false, List, [], ◌∷◌, Option, Some, None, if◌then◌else◌, refl, sym, subst, inl, inr, ◌⊎◌, arith, lit≤}
+use Rattle.std.proofs.Common.{◌≡◌, ℕ, ◌<◌, ◌≤◌, min, nat_le, Bool, true, false, List, [], ◌∷◌, Option, Some, None}
+use Rattle.std.proofs.Common.{if◌then◌else◌, refl, sym, subst, inl, inr, ◌⊎◌, arith, lit≤}
 use Rattle.std.proofs.lemmas.Bool.{cases_lt, leb-true, leb-false}
 use Rattle.tw_base.specs.Lists.{Each}
 use Rattle.teapot_tree.specs.declared.protocol.Protocol.{Protocol}
 use Rattle.teapot_tree.specs.declared.rule.Rule.{Rule}
-use Rattle.teapot_tree.specs.declared.rule.Rule.TheVariants.{Undeclared, Twice, WrongType, ArgCount, NoDefault, ContDropped, ResumeNotLast, ResumeForeign, AfterSuspend, NoData, TooManySends, NotTwoStarts}
+use Rattle.teapot_tree.specs.declared.rule.Rule.TheVariants.{Undeclared, Twice, WrongType, ArgCount, NoDefault, ContDropped}
+use Rattle.teapot_tree.specs.declared.rule.Rule.TheVariants.{ResumeNotLast, ResumeForeign, AfterSuspend, NoData, TooManySends}
+use Rattle.teapot_tree.specs.declared.rule.Rule.TheVariants.{NotTwoStarts}
 use Rattle.teapot_tree.specs.Rules.{Any, Breaks, rank, IsFirstBreak, IsAccepted}
 use Rattle.teapot_tree.specs.Grammar.{IsTree}
 use Rattle.teapot_rules.specs.declared.fault.Fault.{Fault}
@@ -64,16 +67,22 @@ least-of p r (Some n) h = ((lines-are p r n).0 h.0, λ l b. h.1 l ((lines-are p 
 along : (p : Protocol) (q r : Rule) (l : ℕ) → q ≡ r → Breaks p l r → Breaks p l q
 along p q r l e b = subst (λ z. Breaks p l z) (sym e) b
 
-chosen : (p : Protocol) (q : Rule) (rs : List Rule) (n : ℕ) (f : Fault) (b : Bool) → nat_le n f.line ≡ b → Ascends q rs → LeastOf p q (Some n) → FirstOf p rs (Some f) → FirstOf p (q ∷ rs) (if b then Some (fault n q) else Some f)
+chosen : (p : Protocol) (q : Rule) (rs : List Rule) (n : ℕ) (f : Fault) (b : Bool) → nat_le n f.line ≡ b → Ascends q rs →
+    LeastOf p q (Some n) → FirstOf p rs (Some f) → FirstOf p (q ∷ rs) (if b then Some (fault n q) else Some f)
 chosen p q rs n f true e a h k = (
   h.0,
   λ l r i b. elim i [
-    | inl d ↦ let m = h.1 l (along p q r l d b) in let z : rank q ≤ rank r = subst (λ y. rank q ≤ rank y) d (omega arith) in elim (cases_lt n l) [ inl lt ↦ inl lt | inr ge ↦ inr (omega arith, z) ]
+    | inl d ↦ let m = h.1 l (along p q r l d b) in let z : rank q ≤ rank r =
+        subst (λ y. rank q ≤ rank y) d (omega arith) in elim (cases_lt n l) [ inl lt ↦ inl lt | inr ge ↦ inr (omega arith, z) ]
     | inr j ↦
         let m = k.1 l r j b in
         let w : n ≤ f.line = leb-true n f.line e in
         let z = ascends-at q r rs a j in
-        elim (cases_lt n l) [ inl lt ↦ inl lt | inr ge ↦ inr (elim m [ inl u ↦ absurd (omega arith) | inr u ↦ omega (arith, u.0) ], z) ]
+        elim (cases_lt n l) [
+          | inl lt ↦ inl lt
+          | inr ge ↦ inr
+              (elim m [ inl u ↦ absurd (omega arith) | inr u ↦ omega (arith, u.0) ], z)
+        ]
   ],
 )
 chosen p q rs n f false e a h k = (
@@ -84,13 +93,15 @@ chosen p q rs n f false e a h k = (
   ],
 )
 
-step : (p : Protocol) (q : Rule) (rs : List Rule) (o : Option ℕ) (later : Option Fault) → Ascends q rs → LeastOf p q o → FirstOf p rs later → FirstOf p (q ∷ rs) (sooner o q later)
+step : (p : Protocol) (q : Rule) (rs : List Rule) (o : Option ℕ) (later : Option Fault) → Ascends q rs → LeastOf p q o →
+    FirstOf p rs later → FirstOf p (q ∷ rs) (sooner o q later)
 step p q rs None None a h k = λ l r i b. elim i [ inl d ↦ h l (along p q r l d b) | inr j ↦ k l r j b ]
 step p q rs None (Some f) a h k = (k.0, λ l r i b. elim i [ inl d ↦ absurd (h l (along p q r l d b)) | inr j ↦ k.1 l r j b ])
 step p q rs (Some n) None a h k = (
   h.0,
   λ l r i b. elim i [
-    | inl d ↦ let m = h.1 l (along p q r l d b) in let z : rank q ≤ rank r = subst (λ y. rank q ≤ rank y) d (omega arith) in elim (cases_lt n l) [ inl lt ↦ inl lt | inr ge ↦ inr (omega arith, z) ]
+    | inl d ↦ let m = h.1 l (along p q r l d b) in let z : rank q ≤ rank r =
+        subst (λ y. rank q ≤ rank y) d (omega arith) in elim (cases_lt n l) [ inl lt ↦ inl lt | inr ge ↦ inr (omega arith, z) ]
     | inr j ↦ absurd (k l r j b)
   ],
 )
@@ -102,10 +113,44 @@ Sorted (r ∷ rs) = Ascends r rs × Sorted rs
 
 firsts : (p : Protocol) (rs : List Rule) → Sorted rs → FirstOf p rs (first_of_rules p rs)
 firsts p [] s = λ l r i b. absurd i
-firsts p (r ∷ rs) s = step p r rs (least (lines p r)) (first_of_rules p rs) s.0 (least-of p r (least (lines p r)) (least-is (lines p r))) (firsts p rs s.1)
+firsts p (r ∷ rs) s = step p r rs (least (lines p r)) (first_of_rules p rs) s.0
+    (least-of p r (least (lines p r)) (least-is (lines p r))) (firsts p rs s.1)
 
 sorted : Sorted all_rules
-sorted = ((lit≤ tt, (lit≤ tt, (lit≤ tt, (lit≤ tt, (lit≤ tt, (lit≤ tt, (lit≤ tt, (lit≤ tt, (lit≤ tt, (lit≤ tt, (lit≤ tt, tt))))))))))), ((lit≤ tt, (lit≤ tt, (lit≤ tt, (lit≤ tt, (lit≤ tt, (lit≤ tt, (lit≤ tt, (lit≤ tt, (lit≤ tt, (lit≤ tt, tt)))))))))), ((lit≤ tt, (lit≤ tt, (lit≤ tt, (lit≤ tt, (lit≤ tt, (lit≤ tt, (lit≤ tt, (lit≤ tt, (lit≤ tt, tt))))))))), ((lit≤ tt, (lit≤ tt, (lit≤ tt, (lit≤ tt, (lit≤ tt, (lit≤ tt, (lit≤ tt, (lit≤ tt, tt)))))))), ((lit≤ tt, (lit≤ tt, (lit≤ tt, (lit≤ tt, (lit≤ tt, (lit≤ tt, (lit≤ tt, tt))))))), ((lit≤ tt, (lit≤ tt, (lit≤ tt, (lit≤ tt, (lit≤ tt, (lit≤ tt, tt)))))), ((lit≤ tt, (lit≤ tt, (lit≤ tt, (lit≤ tt, (lit≤ tt, tt))))), ((lit≤ tt, (lit≤ tt, (lit≤ tt, (lit≤ tt, tt)))), ((lit≤ tt, (lit≤ tt, (lit≤ tt, tt))), ((lit≤ tt, (lit≤ tt, tt)), ((lit≤ tt, tt), (tt, tt))))))))))))
+sorted = (
+  (
+    lit≤ tt,
+    (
+      lit≤ tt,
+      (lit≤ tt, (lit≤ tt, (lit≤ tt, (lit≤ tt, (lit≤ tt, (lit≤ tt, (lit≤ tt, (lit≤ tt, (lit≤ tt, tt))))))))),
+    ),
+  ),
+  (
+    (lit≤ tt, (lit≤ tt, (lit≤ tt, (lit≤ tt, (lit≤ tt, (lit≤ tt, (lit≤ tt, (lit≤ tt, (lit≤ tt, (lit≤ tt, tt)))))))))),
+    (
+      (lit≤ tt, (lit≤ tt, (lit≤ tt, (lit≤ tt, (lit≤ tt, (lit≤ tt, (lit≤ tt, (lit≤ tt, (lit≤ tt, tt))))))))),
+      (
+        (lit≤ tt, (lit≤ tt, (lit≤ tt, (lit≤ tt, (lit≤ tt, (lit≤ tt, (lit≤ tt, (lit≤ tt, tt)))))))),
+        (
+          (lit≤ tt, (lit≤ tt, (lit≤ tt, (lit≤ tt, (lit≤ tt, (lit≤ tt, (lit≤ tt, tt))))))),
+          (
+            (lit≤ tt, (lit≤ tt, (lit≤ tt, (lit≤ tt, (lit≤ tt, (lit≤ tt, tt)))))),
+            (
+              (lit≤ tt, (lit≤ tt, (lit≤ tt, (lit≤ tt, (lit≤ tt, tt))))),
+              (
+                (lit≤ tt, (lit≤ tt, (lit≤ tt, (lit≤ tt, tt)))),
+                (
+                  (lit≤ tt, (lit≤ tt, (lit≤ tt, tt))),
+                  ((lit≤ tt, (lit≤ tt, tt)), ((lit≤ tt, tt), (tt, tt))),
+                ),
+              ),
+            ),
+          ),
+        ),
+      ),
+    ),
+  ),
+)
 
 all-rules : (r : Rule) → Among r all_rules
 all-rules Undeclared = inl refl

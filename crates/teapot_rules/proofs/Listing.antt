@@ -41,7 +41,8 @@ lists-append xs ys f g line = (
   λ h. elim h [ inl k ↦ any-left (λ x. x ≡ line) xs ys ((f line).1 k) | inr k ↦ any-right (λ x. x ≡ line) xs ys ((g line).1 k) ],
 )
 
-pub lists-flat : {X : Type 0} (f : X → List ℕ) (P : X → ℕ → Type 0) → ((x : X) → Lists (f x) (P x)) → (xs : List X) → Lists (flat_map f xs) (λ line. Any (λ x. P x line) xs)
+pub lists-flat : {X : Type 0} (f : X → List ℕ) (P : X → ℕ → Type 0) → ((x : X) → Lists (f x) (P x)) → (xs : List X) →
+    Lists (flat_map f xs) (λ line. Any (λ x. P x line) xs)
 lists-flat f P each [] = lists-none
 lists-flat f P each (x ∷ xs) = lists-append (f x) (flat_map f xs) (each x) (lists-flat f P each xs)
 

@@ -1,5 +1,6 @@
 -- The place of the first of a name.
-use Rattle.std.proofs.Common.{◌≡◌, ℕ, suc, ◌+◌, ◌<◌, Bool, true, false, cond, not, nat_lt, List, [], ◌∷◌, ◌++◌, length, get_or, take, Option, Some, None, is_some, refl, ap, sym, ◌∙◌, subst, arith, slice_get}
+use Rattle.std.proofs.Common.{◌≡◌, ℕ, suc, ◌+◌, ◌<◌, Bool, true, false, cond, not, nat_lt, List, [], ◌∷◌, ◌++◌, length, get_or}
+use Rattle.std.proofs.Common.{take, Option, Some, None, is_some, refl, ap, sym, ◌∙◌, subst, arith, slice_get}
 use Prim.Native.Nat.compare
 use Rattle.std.specs.Prelude.{◌||◌, position}
 use Rattle.std.specs.List.{position_or_len}
@@ -32,20 +33,24 @@ later : (b : Bool) (k : ℕ) → cond b (Some (suc k)) None ≡ option_map suc (
 later true k = refl
 later false k = refl
 
-at_first : (b : Bool) (k n : ℕ) → cond (nat_lt (cond (not b) (1 + k) 0) (suc n)) (Some (cond (not b) (1 + k) 0)) None ≡ cond b (Some 0) (option_map suc (cond (nat_lt k n) (Some k) None))
+at_first : (b : Bool) (k n : ℕ) → cond (nat_lt (cond (not b) (1 + k) 0) (suc n)) (Some (cond (not b) (1 + k) 0)) None
+    ≡ cond b (Some 0) (option_map suc (cond (nat_lt k n) (Some k) None))
 at_first true k n = rw first_less refl
 at_first false k n = rw (one_later, less_later) (later (nat_lt k n) k)
 
-pub position-cons : (p : Name → Bool) (x : Name) (xs : List Name) → position p (x ∷ xs) ≡ cond (p x) (Some 0) (option_map suc (position p xs))
+pub position-cons : (p : Name → Bool) (x : Name) (xs : List Name) →
+    position p (x ∷ xs) ≡ cond (p x) (Some 0) (option_map suc (position p xs))
 position-cons p x xs = at_first (p x) (position_or_len p xs) (length xs)
 
-one_more : (a : Bool) (o : Option ℕ) (b : Bool) (n : ℕ) → cond a (Some 0) (option_map suc (option_or o (cond b (Some n) None))) ≡ option_or (cond a (Some 0) (option_map suc o)) (cond b (Some (suc n)) None)
+one_more : (a : Bool) (o : Option ℕ) (b : Bool) (n : ℕ) → cond a (Some 0) (option_map suc (option_or o (cond b (Some n) None)))
+    ≡ option_or (cond a (Some 0) (option_map suc o)) (cond b (Some (suc n)) None)
 one_more true o b n = refl
 one_more false (Some k) b n = refl
 one_more false None true n = refl
 one_more false None false n = refl
 
-pub position-push : (p : Name → Bool) (xs : List Name) (y : Name) → position p (xs ++ y ∷ []) ≡ option_or (position p xs) (cond (p y) (Some (length xs)) None)
+pub position-push : (p : Name → Bool) (xs : List Name) (y : Name) →
+    position p (xs ++ y ∷ []) ≡ option_or (position p xs) (cond (p y) (Some (length xs)) None)
 position-push p [] y = position-cons p y []
 position-push p (x ∷ xs) y =
     position-cons p x (xs ++ y ∷ [])
@@ -61,20 +66,26 @@ kept b at (Some k) h = refl
 kept false at None h = refl
 kept true at None h = let e : false ≡ true = h refl in cc
 
-pub known : (places : List ℕ → Option ℕ) (x q : List ℕ) (at : ℕ) → is_some (places x) ≡ true → places q ≡ option_or (places q) (cond (bytes_eq x q) (Some at) None)
-known places x q at stands = kept (bytes_eq x q) at (places q) (λ e. subst (λ z. is_some (places z) ≡ true) ((bytes_eq-Decides x q).0 e) stands)
+pub known : (places : List ℕ → Option ℕ) (x q : List ℕ) (at : ℕ) → is_some (places x) ≡ true →
+    places q ≡ option_or (places q) (cond (bytes_eq x q) (Some at) None)
+known places x q at stands = kept (bytes_eq x q) at (places q)
+    (λ e. subst (λ z. is_some (places z) ≡ true) ((bytes_eq-Decides x q).0 e) stands)
 
-put : (b : Bool) (at : ℕ) (old : Option ℕ) → (b ≡ true → is_some old ≡ false) → cond b (Some at) old ≡ option_or old (cond b (Some at) None)
+put : (b : Bool) (at : ℕ) (old : Option ℕ) → (b ≡ true → is_some old ≡ false) →
+    cond b (Some at) old ≡ option_or old (cond b (Some at) None)
 put false at None h = refl
 put false at (Some k) h = refl
 put true at None h = refl
 put true at (Some k) h = let e : true ≡ false = h refl in cc
 
-pub unknown : (places : List ℕ → Option ℕ) (x q : List ℕ) (at : ℕ) → is_some (places x) ≡ false → cond (bytes_eq x q) (Some at) (places q) ≡ option_or (places q) (cond (bytes_eq x q) (Some at) None)
-unknown places x q at stands = put (bytes_eq x q) at (places q) (λ e. subst (λ z. is_some (places z) ≡ false) ((bytes_eq-Decides x q).0 e) stands)
+pub unknown : (places : List ℕ → Option ℕ) (x q : List ℕ) (at : ℕ) → is_some (places x) ≡ false →
+    cond (bytes_eq x q) (Some at) (places q) ≡ option_or (places q) (cond (bytes_eq x q) (Some at) None)
+unknown places x q at stands = put (bytes_eq x q) at (places q)
+    (λ e. subst (λ z. is_some (places z) ≡ false) ((bytes_eq-Decides x q).0 e) stands)
 
 pub placed_more : (ns : List Name) (i : ℕ) (x q : Name) (before after : Option ℕ) → i < length ns → x ≡ get_or ns i x
-    → before ≡ place_of (take i ns) q → after ≡ option_or before (cond (bytes_eq x q) (Some i) None) → after ≡ place_of (take (i + 1) ns) q
+    → before ≡ place_of (take i ns) q → after ≡ option_or before (cond (bytes_eq x q) (Some i) None) →
+    after ≡ place_of (take (i + 1) ns) q
 placed_more ns i x q before after lt is so_far step =
     let long : length (take i ns) ≡ i = omega (arith, length-take i ns) in
     let more : take (i + 1) ns ≡ take i ns ++ x ∷ [] = take_more ns i x lt ∙ ap (λ z. take i ns ++ z ∷ []) (sym is) in
@@ -93,13 +104,16 @@ some-first false (Some k) = refl
 
 pub among_placed : (ns : List Name) (n : Name) → is_some (position (λ m. bytes_eq m n) ns) ≡ among_names ns n
 among_placed [] n = refl
-among_placed (m ∷ ns) n = ap is_some (position-cons (λ m. bytes_eq m n) m ns) ∙ some-first (bytes_eq m n) (place_of ns n) ∙ ap (λ z. bytes_eq m n || z) (among_placed ns n)
+among_placed (m ∷ ns) n = ap is_some (position-cons (λ m. bytes_eq m n) m ns) ∙ some-first (bytes_eq m n) (place_of ns n)
+    ∙ ap (λ z. bytes_eq m n || z) (among_placed ns n)
 
 none_at : (o : Option ℕ) → None ≡ option_and_then (slice_get {X = ValType} []) o
 none_at None = refl
 none_at (Some k) = refl
 
-type_at : (b : Bool) (t : ValType) (ts : List ValType) (o : Option ℕ) → cond b (Some t) (option_and_then (slice_get ts) o) ≡ option_and_then (slice_get (t ∷ ts)) (cond b (Some 0) (option_map suc o))
+type_at : (b : Bool) (t : ValType) (ts : List ValType) (o : Option ℕ) →
+    cond b (Some t) (option_and_then (slice_get ts) o) ≡ option_and_then (slice_get (t ∷ ts))
+    (cond b (Some 0) (option_map suc o))
 type_at true t ts o = refl
 type_at false t ts None = refl
 type_at false t ts (Some k) = refl
@@ -110,9 +124,11 @@ none_either false o e = e
 
 untyped : (ns : List Name) (n : Name) → type_among (typed ns []) n ≡ None
 untyped [] n = refl
-untyped (m ∷ ns) n = type-cond (bytes_eq m n) (record { name = m; ty = None }) _ ∙ none_either (bytes_eq m n) (type_among (typed ns []) n) (untyped ns n)
+untyped (m ∷ ns) n = type-cond (bytes_eq m n) (record { name = m; ty = None }) _
+    ∙ none_either (bytes_eq m n) (type_among (typed ns []) n) (untyped ns n)
 
-pub typed_placed : (ns : List Name) (ts : List ValType) (n : Name) → type_among (typed ns ts) n ≡ option_and_then (slice_get ts) (position (λ m. bytes_eq m n) ns)
+pub typed_placed : (ns : List Name) (ts : List ValType) (n : Name) →
+    type_among (typed ns ts) n ≡ option_and_then (slice_get ts) (position (λ m. bytes_eq m n) ns)
 typed_placed ns [] n = untyped ns n ∙ none_at (place_of ns n)
 typed_placed [] (t ∷ ts) n = refl
 typed_placed (m ∷ ns) (t ∷ ts) n =

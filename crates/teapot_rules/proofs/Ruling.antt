@@ -1,9 +1,12 @@
 -- The one walk is, for each rule, that rule's walk.
 use Rattle.std.proofs.Common.{◌≡◌, false}
 use Rattle.teapot_tree.specs.declared.rule.Rule.{Rule}
-use Rattle.teapot_tree.specs.declared.rule.Rule.TheVariants.{Undeclared, Twice, WrongType, ArgCount, NoDefault, ContDropped, ResumeNotLast, ResumeForeign, AfterSuspend, NoData, TooManySends, NotTwoStarts}
+use Rattle.teapot_tree.specs.declared.rule.Rule.TheVariants.{Undeclared, Twice, WrongType, ArgCount, NoDefault, ContDropped}
+use Rattle.teapot_tree.specs.declared.rule.Rule.TheVariants.{ResumeNotLast, ResumeForeign, AfterSuspend, NoData, TooManySends}
+use Rattle.teapot_tree.specs.declared.rule.Rule.TheVariants.{NotTwoStarts}
 use Rattle.teapot_tree.specs.Paths.{is_enqueue, is_suspend}
-use Rattle.teapot_tree.specs.Rules.{uses_undeclared, has_wrong_type, has_wrong_count, drops_cont, resumes_foreign, lacks_data, is_late, body_in}
+use Rattle.teapot_tree.specs.Rules.{uses_undeclared, has_wrong_type, has_wrong_count, drops_cont, resumes_foreign, lacks_data}
+use Rattle.teapot_tree.specs.Rules.{is_late, body_in}
 use Rattle.teapot_tree.specs.Scopes.{Scope}
 use Rattle.teapot_rules.specs.Deeds.{comes_first, breaks_at}
 use Rattle.teapot_rules.specs.Faults.{body_lines}

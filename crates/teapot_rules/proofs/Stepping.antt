@@ -1,5 +1,6 @@
 -- Walks over a list of statements, one at a time.
-use Rattle.std.proofs.Common.{◌≡◌, ℕ, zero, suc, ◌+◌, ◌<◌, ◌≤◌, min, Bool, true, false, List, [], ◌∷◌, ◌++◌, drop, length, get_or, nat_lt, Some, None, refl, ap, sym, ◌∙◌, arith}
+use Rattle.std.proofs.Common.{◌≡◌, ℕ, zero, suc, ◌+◌, ◌<◌, ◌≤◌, min, Bool, true, false, List, [], ◌∷◌, ◌++◌, drop, length}
+use Rattle.std.proofs.Common.{get_or, nat_lt, Some, None, refl, ap, sym, ◌∙◌, arith}
 use Rattle.std.specs.Prelude.{◌||◌}
 use Rattle.std.specs.List.{list_any}
 use Rattle.std.proofs.Common.{inl, inr}
@@ -19,32 +20,44 @@ use Rattle.teapot_rules.specs.Walks.{meets, is_some_body, walk, most}
 use Rattle.teapot_rules.proofs.Follows.{met-append}
 use Rattle.teapot_rules.proofs.Appending.{body-cons, meets-append, most-append, walk-append, least-append}
 
-pub body-drop : (ss : List Stmt) (i : ℕ) (s : Stmt) → i < length ss → s ≡ get_or ss i s → body_of (drop i ss) ≡ append (stmt_body s) (body_of (drop (i + 1) ss))
-body-drop ss i s lt is = ap body_of (drop_more ss i s lt) ∙ ap (λ z. body_of (z ∷ drop (i + 1) ss)) (sym is) ∙ body-cons s (drop (i + 1) ss)
+pub body-drop : (ss : List Stmt) (i : ℕ) (s : Stmt) → i < length ss → s ≡ get_or ss i s →
+    body_of (drop i ss) ≡ append (stmt_body s) (body_of (drop (i + 1) ss))
+body-drop ss i s lt is = ap body_of (drop_more ss i s lt) ∙ ap (λ z. body_of (z ∷ drop (i + 1) ss)) (sym is)
+    ∙ body-cons s (drop (i + 1) ss)
 
-pub meets_step : (one : Deed → Bool) (ss : List Stmt) (i : ℕ) (s : Stmt) → i < length ss → s ≡ get_or ss i s → meets one (body_of (drop i ss)) ≡ (meets one (stmt_body s) || meets one (body_of (drop (i + 1) ss)))
+pub meets_step : (one : Deed → Bool) (ss : List Stmt) (i : ℕ) (s : Stmt) → i < length ss → s ≡ get_or ss i s →
+    meets one (body_of (drop i ss)) ≡ (meets one (stmt_body s) || meets one (body_of (drop (i + 1) ss)))
 meets_step one ss i s lt is = ap (meets one) (body-drop ss i s lt is) ∙ meets-append one (stmt_body s) (body_of (drop (i + 1) ss))
 
 -- a statement that meets the test
-pub meets_here : (one : Deed → Bool) (ss : List Stmt) (i : ℕ) (s : Stmt) → i < length ss → s ≡ get_or ss i s → meets one (body_of ss) ≡ meets one (body_of (drop i ss)) → meets one (stmt_body s) ≡ true → true ≡ meets one (body_of ss)
-meets_here one ss i s lt is same met = sym (same ∙ meets_step one ss i s lt is ∙ ap (λ z. z || meets one (body_of (drop (i + 1) ss))) met)
+pub meets_here : (one : Deed → Bool) (ss : List Stmt) (i : ℕ) (s : Stmt) → i < length ss → s ≡ get_or ss i s →
+    meets one (body_of ss) ≡ meets one (body_of (drop i ss)) → meets one (stmt_body s) ≡ true → true ≡ meets one (body_of ss)
+meets_here one ss i s lt is same met = sym (same ∙ meets_step one ss i s lt is
+    ∙ ap (λ z. z || meets one (body_of (drop (i + 1) ss))) met)
 
 -- one that does not
-pub meets_past : (one : Deed → Bool) (ss : List Stmt) (i : ℕ) (s : Stmt) → i < length ss → s ≡ get_or ss i s → meets one (body_of ss) ≡ meets one (body_of (drop i ss)) → meets one (stmt_body s) ≡ false →
+pub meets_past : (one : Deed → Bool) (ss : List Stmt) (i : ℕ) (s : Stmt) → i < length ss → s ≡ get_or ss i s →
+    meets one (body_of ss) ≡ meets one (body_of (drop i ss)) → meets one (stmt_body s) ≡ false →
     meets one (body_of ss) ≡ meets one (body_of (drop (i + 1) ss))
-meets_past one ss i s lt is same missed = same ∙ meets_step one ss i s lt is ∙ ap (λ z. z || meets one (body_of (drop (i + 1) ss))) missed
+meets_past one ss i s lt is same missed = same ∙ meets_step one ss i s lt is
+    ∙ ap (λ z. z || meets one (body_of (drop (i + 1) ss))) missed
 
-pub most_step : (ss : List Stmt) (i : ℕ) (s : Stmt) → i < length ss → s ≡ get_or ss i s → most (body_of (drop i ss)) ≡ most (stmt_body s) + most (body_of (drop (i + 1) ss))
+pub most_step : (ss : List Stmt) (i : ℕ) (s : Stmt) → i < length ss → s ≡ get_or ss i s →
+    most (body_of (drop i ss)) ≡ most (stmt_body s) + most (body_of (drop (i + 1) ss))
 most_step ss i s lt is = ap most (body-drop ss i s lt is) ∙ most-append (stmt_body s) (body_of (drop (i + 1) ss))
 
-least-sum : (due sum a b one next : ℕ) → due ≡ min 33 (sum + (a + b)) → one ≡ min 33 a → next ≡ min 33 (sum + one) → due ≡ min 33 (next + b)
+least-sum : (due sum a b one next : ℕ) → due ≡ min 33 (sum + (a + b)) → one ≡ min 33 a → next ≡ min 33 (sum + one) →
+    due ≡ min 33 (next + b)
 least-sum due sum a b one next e f g = omega arith
 
 -- the count so far, with one statement more
-pub most_more : (ss : List Stmt) (i : ℕ) (s : Stmt) (sum one next : ℕ) → i < length ss → s ≡ get_or ss i s → min 33 (most (body_of ss)) ≡ min 33 (sum + most (body_of (drop i ss))) →
-    one ≡ min 33 (most (stmt_body s)) → next ≡ min 33 (sum + one) → min 33 (most (body_of ss)) ≡ min 33 (next + most (body_of (drop (i + 1) ss)))
+pub most_more : (ss : List Stmt) (i : ℕ) (s : Stmt) (sum one next : ℕ) → i < length ss → s ≡ get_or ss i s →
+    min 33 (most (body_of ss)) ≡ min 33 (sum + most (body_of (drop i ss))) →
+    one ≡ min 33 (most (stmt_body s)) → next ≡ min 33 (sum + one) →
+    min 33 (most (body_of ss)) ≡ min 33 (next + most (body_of (drop (i + 1) ss)))
 most_more ss i s sum one next lt is same f g =
-    least-sum (min 33 (most (body_of ss))) sum (most (stmt_body s)) (most (body_of (drop (i + 1) ss))) one next (same ∙ ap (λ z. min 33 (sum + z)) (most_step ss i s lt is)) f g
+    least-sum (min 33 (most (body_of ss))) sum (most (stmt_body s)) (most (body_of (drop (i + 1) ss))) one next
+    (same ∙ ap (λ z. min 33 (sum + z)) (most_step ss i s lt is)) f g
 
 pub few_enough : (next n : ℕ) → next ≡ min 33 n → next ≤ 33
 few_enough next n e = omega arith
@@ -88,44 +101,63 @@ left-drop ss i = elim (cases_lt i (length ss)) [
 pub some_drop : (ss : List Stmt) (i : ℕ) → is_some_body (body_of (drop i ss)) ≡ nat_lt i (length ss)
 some_drop ss i = some-body (drop i ss) ∙ left-drop ss i
 
-pub walk_step : (one : Deed → Bool) (test : Bool → Bool → Deed → Bool) (ss : List Stmt) (i : ℕ) (s : Stmt) (had more : Bool) → i < length ss → s ≡ get_or ss i s →
+pub walk_step : (one : Deed → Bool) (test : Bool → Bool → Deed → Bool) (ss : List Stmt) (i : ℕ) (s : Stmt) (had more : Bool) →
+    i < length ss → s ≡ get_or ss i s →
     least (walk one test (body_of (drop i ss)) had more)
-    ≡ lesser (least (walk one test (stmt_body s) had (nat_lt (i + 1) (length ss) || more))) (least (walk one test (body_of (drop (i + 1) ss)) (had || meets one (stmt_body s)) more))
+    ≡ lesser (least (walk one test (stmt_body s) had (nat_lt (i + 1) (length ss) || more)))
+    (least (walk one test (body_of (drop (i + 1) ss)) (had || meets one (stmt_body s)) more))
 walk_step one test ss i s had more lt is =
     ap (λ z. least (walk one test z had more)) (body-drop ss i s lt is)
     ∙ ap least (walk-append one test (stmt_body s) (body_of (drop (i + 1) ss)) had more)
-    ∙ least-append (walk one test (stmt_body s) had (is_some_body (body_of (drop (i + 1) ss)) || more)) (walk one test (body_of (drop (i + 1) ss)) (had || meets one (stmt_body s)) more)
-    ∙ ap (λ z. lesser (least (walk one test (stmt_body s) had (z || more))) (least (walk one test (body_of (drop (i + 1) ss)) (had || meets one (stmt_body s)) more))) (some_drop ss (i + 1))
+    ∙ least-append (walk one test (stmt_body s) had (is_some_body (body_of (drop (i + 1) ss)) || more))
+    (walk one test (body_of (drop (i + 1) ss)) (had || meets one (stmt_body s)) more)
+    ∙ ap (λ z. lesser (least (walk one test (stmt_body s) had (z || more)))
+    (least (walk one test (body_of (drop (i + 1) ss)) (had || meets one (stmt_body s)) more))) (some_drop ss (i + 1))
 
 -- ---- one statement, by its kind
 
 met-nil : (test : Deed → Bool) (x : Body) → list_any (λ (s : Step). test s.deed) (steps_in x ++ []) ≡ meets test x
 met-nil test x = ap (λ z. list_any (λ (s : Step). test s.deed) z) (append-nil (steps_in x))
 
-pub meets_branch : (one : Deed → Bool) (line : ℕ) (e : Expr) (x : Body) → meets one (branch line e x done) ≡ (one (tests e) || meets one x)
+pub meets_branch : (one : Deed → Bool) (line : ℕ) (e : Expr) (x : Body) →
+    meets one (branch line e x done) ≡ (one (tests e) || meets one x)
 meets_branch one line e x = ap (λ z. one (tests e) || z) (met-nil one x)
 
-pub meets_branches : (one : Deed → Bool) (line : ℕ) (e : Expr) (x y : Body) → meets one (branches line e x y done) ≡ (one (tests e) || (meets one x || meets one y))
-meets_branches one line e x y = ap (λ z. one (tests e) || z) (met-append one (steps_in x) (steps_in y ++ []) ∙ ap (λ z. meets one x || z) (met-nil one y))
+pub meets_branches : (one : Deed → Bool) (line : ℕ) (e : Expr) (x y : Body) →
+    meets one (branches line e x y done) ≡ (one (tests e) || (meets one x || meets one y))
+meets_branches one line e x y = ap (λ z. one (tests e) || z)
+    (met-append one (steps_in x) (steps_in y ++ []) ∙ ap (λ z. meets one x || z) (met-nil one y))
 
-pub meets_loop : (one : Deed → Bool) (line : ℕ) (v : Name) (e : Expr) (x : Body) → meets one (loop line v e x done) ≡ (one (repeats v e) || meets one x)
+pub meets_loop : (one : Deed → Bool) (line : ℕ) (v : Name) (e : Expr) (x : Body) →
+    meets one (loop line v e x done) ≡ (one (repeats v e) || meets one x)
 meets_loop one line v e x = ap (λ z. one (repeats v e) || z) (met-nil one x)
 
 pub walk_branch : (one : Deed → Bool) (test : Bool → Bool → Deed → Bool) (line : ℕ) (e : Expr) (x : Body) (had more : Bool) →
-    least (walk one test (branch line e x done) had more) ≡ lesser (least (line_if (test had more (tests e)) line)) (least (walk one test x (had || one (tests e)) more))
+    least (walk one test (branch line e x done) had more) ≡ lesser (least (line_if (test had more (tests e)) line))
+    (least (walk one test x (had || one (tests e)) more))
 walk_branch one test line e x had more =
-    least-append (line_if (test had more (tests e)) line) (walk one test x (had || one (tests e)) more ++ []) ∙ ap (λ z. lesser (least (line_if (test had more (tests e)) line)) (least z)) (append-nil (walk one test x (had || one (tests e)) more))
+    least-append (line_if (test had more (tests e)) line) (walk one test x (had || one (tests e)) more ++ [])
+    ∙ ap (λ z. lesser (least (line_if (test had more (tests e)) line)) (least z))
+    (append-nil (walk one test x (had || one (tests e)) more))
 
 pub walk_branches : (one : Deed → Bool) (test : Bool → Bool → Deed → Bool) (line : ℕ) (e : Expr) (x y : Body) (had more : Bool) →
     least (walk one test (branches line e x y done) had more)
-    ≡ lesser (least (line_if (test had more (tests e)) line)) (lesser (least (walk one test x (had || one (tests e)) more)) (least (walk one test y (had || one (tests e)) more)))
+    ≡ lesser (least (line_if (test had more (tests e)) line))
+    (lesser (least (walk one test x (had || one (tests e)) more)) (least (walk one test y (had || one (tests e)) more)))
 walk_branches one test line e x y had more =
-    least-append (line_if (test had more (tests e)) line) (walk one test x (had || one (tests e)) more ++ (walk one test y (had || one (tests e)) more ++ []))
+    least-append (line_if (test had more (tests e)) line) (walk one test x (had || one (tests e)) more
+    ++ (walk one test y (had || one (tests e)) more ++ []))
     ∙ ap (λ z. lesser (least (line_if (test had more (tests e)) line)) z)
-    (least-append (walk one test x (had || one (tests e)) more) (walk one test y (had || one (tests e)) more ++ []) ∙ ap (λ z. lesser (least (walk one test x (had || one (tests e)) more)) (least z)) (append-nil (walk one test y (had || one (tests e)) more)))
+    (least-append (walk one test x (had || one (tests e)) more) (walk one test y (had || one (tests e)) more ++ [])
+    ∙ ap (λ z. lesser (least (walk one test x (had || one (tests e)) more)) (least z))
+    (append-nil (walk one test y (had || one (tests e)) more)))
 
-pub walk_loop : (one : Deed → Bool) (test : Bool → Bool → Deed → Bool) (line : ℕ) (v : Name) (e : Expr) (x : Body) (had more : Bool) →
-    least (walk one test (loop line v e x done) had more) ≡ lesser (least (line_if (test had more (repeats v e)) line)) (least (walk one test x (had || one (repeats v e) || meets one x) true))
+pub walk_loop : (one : Deed → Bool) (test : Bool → Bool → Deed → Bool) (line : ℕ) (v : Name) (e : Expr) (x : Body)
+    (had more : Bool) →
+    least (walk one test (loop line v e x done) had more) ≡ lesser (least (line_if (test had more (repeats v e)) line))
+    (least (walk one test x (had || one (repeats v e) || meets one x) true))
 walk_loop one test line v e x had more =
-    least-append (line_if (test had more (repeats v e)) line) (walk one test x (had || one (repeats v e) || meets one x) true ++ [])
-    ∙ ap (λ z. lesser (least (line_if (test had more (repeats v e)) line)) (least z)) (append-nil (walk one test x (had || one (repeats v e) || meets one x) true))
+    least-append (line_if (test had more (repeats v e)) line)
+    (walk one test x (had || one (repeats v e) || meets one x) true ++ [])
+    ∙ ap (λ z. lesser (least (line_if (test had more (repeats v e)) line)) (least z))
+    (append-nil (walk one test x (had || one (repeats v e) || meets one x) true))

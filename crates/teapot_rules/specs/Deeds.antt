@@ -4,10 +4,13 @@ use Rattle.teapot_tree.specs.declared.stmt.Do.{Do, out-Do}
 use Rattle.teapot_tree.specs.declared.stmt.Do.TheOpen.{Do-F}
 use Rattle.teapot_tree.specs.declared.stmt.Stmt.{Stmt}
 use Rattle.teapot_tree.specs.declared.rule.Rule.{Rule}
-use Rattle.teapot_tree.specs.declared.rule.Rule.TheVariants.{Undeclared, Twice, WrongType, ArgCount, ContDropped, ResumeNotLast, ResumeForeign, AfterSuspend, NoData}
-use Rattle.teapot_tree.specs.Bodies.{assign, send, send_all, set_tag, set_state, suspend, resume, install, enqueue, wake_up, error}
+use Rattle.teapot_tree.specs.declared.rule.Rule.TheVariants.{Undeclared, Twice, WrongType, ArgCount, ContDropped, ResumeNotLast}
+use Rattle.teapot_tree.specs.declared.rule.Rule.TheVariants.{ResumeForeign, AfterSuspend, NoData}
+use Rattle.teapot_tree.specs.Bodies.{assign, send, send_all, set_tag, set_state, suspend, resume, install, enqueue, wake_up}
+use Rattle.teapot_tree.specs.Bodies.{error}
 use Rattle.teapot_tree.specs.Paths.{Deed, does, tests, repeats, goes_on, is_enqueue, is_suspend, is_resume}
-use Rattle.teapot_tree.specs.Rules.{uses_undeclared, has_wrong_type, has_wrong_count, drops_cont, resumes_foreign, lacks_data, is_late}
+use Rattle.teapot_tree.specs.Rules.{uses_undeclared, has_wrong_type, has_wrong_count, drops_cont, resumes_foreign, lacks_data}
+use Rattle.teapot_tree.specs.Rules.{is_late}
 use Rattle.teapot_tree.specs.Scopes.{Scope}
 use Rattle.teapot_rules.specs.declared.handler_scope.Scope.{Scope as Scoped}
 

@@ -12,15 +12,21 @@ use Rattle.teapot_tree.specs.declared.protocol.State.{State}
 use Rattle.teapot_tree.specs.declared.protocol.Trigger.{Trigger}
 use Rattle.teapot_tree.specs.declared.protocol.Trigger.TheVariants as t
 use Rattle.teapot_tree.specs.declared.rule.Rule.{Rule}
-use Rattle.teapot_tree.specs.declared.rule.Rule.TheVariants.{Undeclared, Twice, WrongType, ArgCount, NoDefault, ContDropped, ResumeNotLast, ResumeForeign, AfterSuspend, NoData, TooManySends, NotTwoStarts}
+use Rattle.teapot_tree.specs.declared.rule.Rule.TheVariants.{Undeclared, Twice, WrongType, ArgCount, NoDefault, ContDropped}
+use Rattle.teapot_tree.specs.declared.rule.Rule.TheVariants.{ResumeNotLast, ResumeForeign, AfterSuspend, NoData, TooManySends}
+use Rattle.teapot_tree.specs.declared.rule.Rule.TheVariants.{NotTwoStarts}
 use Rattle.teapot_tree.specs.Paths.{is_enqueue, is_suspend, is_resume}
-use Rattle.teapot_tree.specs.Rules.{uses_undeclared, has_wrong_type, has_wrong_count, drops_cont, resumes_foreign, lacks_data, answers_undeclared, counts_wrongly, is_wrong_start, has_default, is_cont, is_late, visible_names, body_in}
+use Rattle.teapot_tree.specs.Rules.{uses_undeclared, has_wrong_type, has_wrong_count, drops_cont, resumes_foreign, lacks_data}
+use Rattle.teapot_tree.specs.Rules.{answers_undeclared, counts_wrongly, is_wrong_start, has_default, is_cont, is_late}
+use Rattle.teapot_tree.specs.Rules.{visible_names, body_in}
 use Rattle.teapot_tree.specs.Scopes.{Scope, state_of}
 use Rattle.teapot_rules.specs.Lists.{line_if, again}
 use Rattle.teapot_rules.specs.Walks.{step_lines, follow, not_last, most}
 
 abbrev pub in_handlers : (Scope → List ℕ) → Protocol → List ℕ
-in_handlers f p = flat_map (λ (s : State). flat_map (λ (h : Handler). f (record { protocol = p; state = s; handler = h })) s.handlers) p.states
+in_handlers f p =
+    flat_map (λ (s : State). flat_map (λ (h : Handler). f (record { protocol = p; state = s; handler = h })) s.handlers)
+    p.states
 
 abbrev pub same_trigger : Trigger → Trigger → Bool
 same_trigger t.RdFault t.RdFault = true

@@ -2,7 +2,9 @@
 use Rattle.std.specs.Prelude.{ℕ, nat_le, List, [], ◌∷◌, Option, Some, None, if◌then◌else◌}
 use Rattle.teapot_tree.specs.declared.protocol.Protocol.{Protocol}
 use Rattle.teapot_tree.specs.declared.rule.Rule.{Rule}
-use Rattle.teapot_tree.specs.declared.rule.Rule.TheVariants.{Undeclared, Twice, WrongType, ArgCount, NoDefault, ContDropped, ResumeNotLast, ResumeForeign, AfterSuspend, NoData, TooManySends, NotTwoStarts}
+use Rattle.teapot_tree.specs.declared.rule.Rule.TheVariants.{Undeclared, Twice, WrongType, ArgCount, NoDefault, ContDropped}
+use Rattle.teapot_tree.specs.declared.rule.Rule.TheVariants.{ResumeNotLast, ResumeForeign, AfterSuspend, NoData, TooManySends}
+use Rattle.teapot_tree.specs.declared.rule.Rule.TheVariants.{NotTwoStarts}
 use Rattle.teapot_rules.specs.declared.fault.Fault.{Fault}
 use Rattle.teapot_rules.specs.Faults.{lines}
 use Rattle.teapot_rules.specs.Lists.{least}

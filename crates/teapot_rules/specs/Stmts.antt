@@ -3,7 +3,8 @@ use Rattle.std.specs.Prelude.{ℕ, Some, None}
 use Rattle.teapot_tree.specs.declared.stmt.Do.{Do, out-Do}
 use Rattle.teapot_tree.specs.declared.stmt.Do.TheOpen.{Do-F}
 use Rattle.teapot_tree.specs.declared.stmt.Stmt.{Stmt}
-use Rattle.teapot_tree.specs.Bodies.{assign, send, send_all, set_tag, set_state, suspend, resume, install, enqueue, wake_up, error, Body, done, plain, branch, branches, loop, each, body_of}
+use Rattle.teapot_tree.specs.Bodies.{assign, send, send_all, set_tag, set_state, suspend, resume, install, enqueue, wake_up}
+use Rattle.teapot_tree.specs.Bodies.{error, Body, done, plain, branch, branches, loop, each, body_of}
 
 -- one after the other
 abbrev pub append : Body → Body → Body

@@ -17,12 +17,15 @@ meets test b = list_any (λ (s : Step). test s.deed) (steps_in b)
 abbrev pub follow : (Deed → Bool) → (Deed → Bool) → Body → Bool → List ℕ
 follow one other done had = []
 follow one other (plain line s b) had = line_if (had && other (does s)) line ++ follow one other b (had || one (does s))
-follow one other (branch line e x b) had = line_if (had && other (tests e)) line ++ (follow one other x (had || one (tests e)) ++ follow one other b (had || one (tests e) || meets one x))
+follow one other (branch line e x b) had = line_if (had && other (tests e)) line
+    ++ (follow one other x (had || one (tests e)) ++ follow one other b (had || one (tests e) || meets one x))
 follow one other (branches line e x y b) had =
     line_if (had && other (tests e)) line
-    ++ (follow one other x (had || one (tests e)) ++ (follow one other y (had || one (tests e)) ++ follow one other b (had || one (tests e) || meets one x || meets one y)))
+    ++ (follow one other x (had || one (tests e)) ++ (follow one other y (had || one (tests e))
+    ++ follow one other b (had || one (tests e) || meets one x || meets one y)))
 follow one other (loop line v e x b) had =
-    line_if (had && other (repeats v e)) line ++ (follow one other x (had || one (repeats v e) || meets one x) ++ follow one other b (had || one (repeats v e) || meets one x))
+    line_if (had && other (repeats v e)) line ++ (follow one other x (had || one (repeats v e) || meets one x)
+    ++ follow one other b (had || one (repeats v e) || meets one x))
 follow one other (each line v s x b) had = line_if (had && other goes_on) line ++ follow one other b (had || one goes_on)
 
 abbrev pub is_some_body : Body → Bool
@@ -33,26 +36,36 @@ is_some_body _ = true
 abbrev pub not_last : (Deed → Bool) → Body → Bool → List ℕ
 not_last kind done more = []
 not_last kind (plain line s b) more = line_if (kind (does s) && (is_some_body b || more)) line ++ not_last kind b more
-not_last kind (branch line e x b) more = line_if (kind (tests e) && (is_some_body x || is_some_body b || more)) line ++ (not_last kind x (is_some_body b || more) ++ not_last kind b more)
+not_last kind (branch line e x b) more = line_if (kind (tests e) && (is_some_body x || is_some_body b || more)) line
+    ++ (not_last kind x (is_some_body b || more) ++ not_last kind b more)
 not_last kind (branches line e x y b) more =
-    line_if (kind (tests e) && (is_some_body x || is_some_body y || is_some_body b || more)) line ++ (not_last kind x (is_some_body b || more) ++ (not_last kind y (is_some_body b || more) ++ not_last kind b more))
-not_last kind (loop line v e x b) more = line_if (kind (repeats v e) && (is_some_body x || is_some_body b || more)) line ++ (not_last kind x true ++ not_last kind b more)
+    line_if (kind (tests e) && (is_some_body x || is_some_body y || is_some_body b || more)) line
+    ++ (not_last kind x (is_some_body b || more) ++ (not_last kind y (is_some_body b || more) ++ not_last kind b more))
+not_last kind (loop line v e x b) more = line_if (kind (repeats v e) && (is_some_body x || is_some_body b || more)) line
+    ++ (not_last kind x true ++ not_last kind b more)
 not_last kind (each line v s x b) more = line_if (kind goes_on && (is_some_body b || more)) line ++ not_last kind b more
 
 -- ---- all of these as one walk: a test is told whether one of a kind came before and whether a statement follows
 
 abbrev pub walk : (Deed → Bool) → (Bool → Bool → Deed → Bool) → Body → Bool → Bool → List ℕ
 walk one test done had more = []
-walk one test (plain line s b) had more = line_if (test had (is_some_body b || more) (does s)) line ++ walk one test b (had || one (does s)) more
+walk one test (plain line s b) had more = line_if (test had (is_some_body b || more) (does s)) line
+    ++ walk one test b (had || one (does s)) more
 walk one test (branch line e x b) had more =
-    line_if (test had (is_some_body b || more) (tests e)) line ++ (walk one test x (had || one (tests e)) (is_some_body b || more) ++ walk one test b (had || one (tests e) || meets one x) more)
+    line_if (test had (is_some_body b || more) (tests e)) line
+    ++ (walk one test x (had || one (tests e)) (is_some_body b || more)
+    ++ walk one test b (had || one (tests e) || meets one x) more)
 walk one test (branches line e x y b) had more =
     line_if (test had (is_some_body b || more) (tests e)) line
     ++ (walk one test x (had || one (tests e)) (is_some_body b || more)
-    ++ (walk one test y (had || one (tests e)) (is_some_body b || more) ++ walk one test b (had || one (tests e) || meets one x || meets one y) more))
+    ++ (walk one test y (had || one (tests e)) (is_some_body b || more)
+    ++ walk one test b (had || one (tests e) || meets one x || meets one y) more))
 walk one test (loop line v e x b) had more =
-    line_if (test had (is_some_body b || more) (repeats v e)) line ++ (walk one test x (had || one (repeats v e) || meets one x) true ++ walk one test b (had || one (repeats v e) || meets one x) more)
-walk one test (each line v s x b) had more = line_if (test had (is_some_body b || more) goes_on) line ++ walk one test b (had || one goes_on) more
+    line_if (test had (is_some_body b || more) (repeats v e)) line
+    ++ (walk one test x (had || one (repeats v e) || meets one x) true
+    ++ walk one test b (had || one (repeats v e) || meets one x) more)
+walk one test (each line v s x b) had more = line_if (test had (is_some_body b || more) goes_on) line
+    ++ walk one test b (had || one goes_on) more
 
 -- the most messages that a path sends, as the rule counts them
 abbrev pub most : Body → ℕ

@@ -89,7 +89,8 @@ pub fn undeclared_starts(protocol: &Protocol, starts: &[Start]) -> Option<u32>
 
 /// The least line of a start in a state with arguments or a continuation.
 pub fn wrong_starts(protocol: &Protocol, starts: &[Start]) -> Option<u32>
-    ensures { result ≡ least (flat_map (λ (s : Start). line_if (is_wrong_start (state_of protocol.now s.state)) s.line) starts.now) }
+    ensures { result
+        ≡ least (flat_map (λ (s : Start). line_if (is_wrong_start (state_of protocol.now s.state)) s.line) starts.now) }
 {
     let mut least = None;
     for s in starts {

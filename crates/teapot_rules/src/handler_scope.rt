@@ -24,7 +24,8 @@ impl<'a> Scope<'a> {
         state: &'a State,
         handler: &'a Handler,
     ) -> Result<Scope<'a>, Memory>
-        ensures { IfOk result (λ scope. scope_of scope ≡ record { protocol = protocol.now; state = state.now; handler = handler.now }) }
+        ensures { IfOk result (λ scope. scope_of scope ≡ record
+            { protocol = protocol.now; state = state.now; handler = handler.now }) }
     {
         let args = Names::new(alloc, handler.args.items())?;
         Ok(Scope {

@@ -15,8 +15,10 @@ ghost use Rattle.teapot_rules.specs.Walks.{follow, not_last, most, walk};
 
 /// Each walk finds what some path meets, and nothing else.
 pub fn paths()
-    ensures follows { (one other : Deed → Bool) (b : Body) → Lists (follow one other b false) (λ line. (p : List Step) × Path b p × Follows one other line p) }
-    ensures last { (kind : Deed → Bool) (b : Body) → Lists (not_last kind b false) (λ line. (p : List Step) × Path b p × NotLast kind line p) }
+    ensures follows { (one other : Deed → Bool) (b : Body) →
+        Lists (follow one other b false) (λ line. (p : List Step) × Path b p × Follows one other line p) }
+    ensures last { (kind : Deed → Bool) (b : Body) → Lists (not_last kind b false)
+        (λ line. (p : List Step) × Path b p × NotLast kind line p) }
     ensures sends { (b : Body) → (32 < most b) ↔ ((n : ℕ) × Sends b n × (32 < n)) }
 {}
 

@@ -14,7 +14,8 @@ use tw_base::{Memory, Name};
 pub struct Names<'a> {
     pub names: &'a [Name],
     places: BTreeMap<&'a [u8], usize>,
-    ghost placed: { (name : List ℕ) → get_by (λ k. slice_cmp nat_cmp name k.now) places ≡ position (λ m. bytes_eq m name) names.now },
+    ghost placed: { (name : List ℕ) → get_by (λ k. slice_cmp nat_cmp name k.now) places
+        ≡ position (λ m. bytes_eq m name) names.now },
 }
 
 fn look(places: &BTreeMap<&[u8], usize>, name: &Name) -> Option<usize>
@@ -25,7 +26,8 @@ fn look(places: &BTreeMap<&[u8], usize>, name: &Name) -> Option<usize>
 
 /// Notes the place of a name, where it has none.
 fn note<'a>(places: &mut BTreeMap<&'a [u8], usize>, name: &'a Name, at: usize) -> Result<(), Memory>
-    ensures { OnOk result ((q : List ℕ) → get_by (λ k. slice_cmp nat_cmp q k.now) places.new ≡ option_or (get_by (λ k. slice_cmp nat_cmp q k.now) places.old) (cond (bytes_eq name.now q) (Some at) None)) }
+    ensures { OnOk result ((q : List ℕ) → get_by (λ k. slice_cmp nat_cmp q k.now) places.new
+        ≡ option_or (get_by (λ k. slice_cmp nat_cmp q k.now) places.old) (cond (bytes_eq name.now q) (Some at) None)) }
 {
     if look(places, name).is_some() {
         return Ok(());

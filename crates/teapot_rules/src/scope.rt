@@ -1,5 +1,6 @@
 ghost use Rattle.std.specs.Prelude.{◌≡◌, ◌||◌, ◌&&◌, map, option_copied, slice_get};
-ghost use Rattle.teapot_tree.specs.Scopes.{message_of, state_of, taken_message, typed, args_of, is_among, type_among, locals_in, assignable, visible};
+ghost use Rattle.teapot_tree.specs.Scopes.{message_of, state_of, taken_message, typed, args_of, is_among, type_among};
+ghost use Rattle.teapot_tree.specs.Scopes.{locals_in, assignable, visible};
 ghost use Rattle.teapot_rules.specs.Deeds.{scope_of};
 ghost use Rattle.teapot_rules.specs.Names.{among_params, type_in_params, among_names, inner};
 
@@ -82,7 +83,9 @@ fn type_at(types: &[ValType], at: usize) -> Option<ValType>
 
 /// The type that is declared for the handler's first argument of the name.
 fn arg_type(scope: &Scope, name: &Name) -> Option<ValType>
-    ensures { result ≡ type_among (typed scope.now.handler.now.args (args_of (taken_message scope.now.protocol.now scope.now.handler.now.on))) name.now }
+    ensures { result
+        ≡ type_among (typed scope.now.handler.now.args (args_of
+        (taken_message scope.now.protocol.now scope.now.handler.now.on))) name.now }
 {
     let at = scope.args.position(name)?;
     type_at(taken_types(scope), at)

@@ -1,7 +1,9 @@
 ghost use Rattle.std.specs.Prelude.{◌≡◌};
 ghost use Rattle.std.specs.List.{list_all};
 ghost use Rattle.teapot_tree.specs.Paths.{is_enqueue, is_suspend, is_resume};
-ghost use Rattle.teapot_tree.specs.Rules.{exprs_at, is_declared, uses_undeclared, is_counted, is_message_count, is_state_count, has_cont, lacks_cont, drops_cont, resumes_foreign, lacks_data, is_cont, carries, is_late};
+ghost use Rattle.teapot_tree.specs.Rules.{exprs_at, is_declared, uses_undeclared, is_counted, is_message_count, is_state_count};
+ghost use Rattle.teapot_tree.specs.Rules.{has_cont, lacks_cont, drops_cont, resumes_foreign, lacks_data, is_cont, carries};
+ghost use Rattle.teapot_tree.specs.Rules.{is_late};
 ghost use Rattle.teapot_tree.specs.Scopes.{message_of, state_of, taken_message, visible};
 ghost use Rattle.teapot_rules.specs.Deeds.{scope_of, deed_of, comes_first};
 ghost use Rattle.teapot_rules.specs.Names.{all_seen};

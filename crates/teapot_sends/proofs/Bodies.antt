@@ -28,7 +28,8 @@ body-append (s ∷ xs) ys =
     body-cons s (xs ++ ys) ∙ ap (append (stmt_body s)) (body-append xs ys)
     ∙ sym (append-assoc (stmt_body s) (body_of xs) (body_of ys)) ∙ ap (λ z. append z (body_of ys)) (sym (body-cons s xs))
 
-pub body-first : (s : Stmt) (xs : List Stmt) (l : Layer) → what_of s ≡ l → body_of (s ∷ xs) ≡ append (layer_body s.line l) (body_of xs)
+pub body-first : (s : Stmt) (xs : List Stmt) (l : Layer) → what_of s ≡ l →
+    body_of (s ∷ xs) ≡ append (layer_body s.line l) (body_of xs)
 body-first s xs l e = body-cons s xs ∙ ap (λ z. append (layer_body s.line z) (body_of xs)) e
 
 -- ---- a loop's turns

@@ -32,14 +32,17 @@ module _ (c : Price) where
   same_ahead n m (Do-F.If e xs (Some ys)) = refl
   same_ahead n m _ = refl
 
-  pub ahead-first : (s : Stmt) (rest : List Stmt) (l : Layer) → what_of s ≡ l → ahead_of c (s ∷ rest) ≡ layer_ahead l + ahead_of c rest
+  pub ahead-first : (s : Stmt) (rest : List Stmt) (l : Layer) → what_of s ≡ l →
+      ahead_of c (s ∷ rest) ≡ layer_ahead l + ahead_of c rest
   ahead-first s rest l e =
-      ap (ahead c) (body-first s rest l e) ∙ ahead-append c (layer_body s.line l) (body_of rest) ∙ ap (λ z. z + ahead_of c rest) (same_ahead s.line 0 l)
+      ap (ahead c) (body-first s rest l e) ∙ ahead-append c (layer_body s.line l) (body_of rest)
+      ∙ ap (λ z. z + ahead_of c rest) (same_ahead s.line 0 l)
 
   pub ahead-both : (xs ys : List Stmt) → ahead_of c (xs ++ ys) ≡ ahead_of c xs + ahead_of c ys
   ahead-both xs ys = ap (ahead c) (body-append xs ys) ∙ ahead-append c (body_of xs) (body_of ys)
 
-  pub ahead-each : (x : Name) (set : List Bool) (body rest : List Stmt) → ahead_of c (each x set body ∷ rest) ≡ length (nodes_in set) * (c.turn + text_of body) + c.turn + ahead_of c rest
+  pub ahead-each : (x : Name) (set : List Bool) (body rest : List Stmt) →
+      ahead_of c (each x set body ∷ rest) ≡ length (nodes_in set) * (c.turn + text_of body) + c.turn + ahead_of c rest
   ahead-each x set body rest =
       let e = ahead-first (each x set body) rest (Do-F.Each x set body) (out-roll-Do (Do-F.Each x set body)) in omega arith
 
@@ -48,7 +51,8 @@ module _ (c : Price) where
   peak-tail : (s : Stmt) (rest : List Stmt) → peak_of rest ≤ peak_of (s ∷ rest)
   peak-tail s rest = by_layer (what_of s) (ap (peak c) (body-first s rest (what_of s) refl))
     where
-      by_layer : (l : Layer) → peak_of (s ∷ rest) ≡ peak c (append (layer_body s.line l) (body_of rest)) → peak_of rest ≤ peak_of (s ∷ rest)
+      by_layer : (l : Layer) → peak_of (s ∷ rest) ≡ peak c (append (layer_body s.line l) (body_of rest)) →
+          peak_of rest ≤ peak_of (s ∷ rest)
       by_layer (Do-F.If e xs None) h = omega arith
       by_layer (Do-F.If e xs (Some ys)) h = omega arith
       by_layer _ h = omega arith
@@ -57,12 +61,15 @@ module _ (c : Price) where
   peak-both xs ys = let e = ap (peak c) (body-append xs ys) in let h = peak-append c (body_of xs) (body_of ys) in omega arith
 
   peak-if : (s : Stmt) (rest first : List Stmt) (e : Expr) (second : Option (List Stmt)) → what_of s ≡ Do-F.If e first second
-      → (text_of first + ahead_of c rest ≤ peak_of (s ∷ rest)) × (text_of (unwrap_or second []) + ahead_of c rest ≤ peak_of (s ∷ rest))
+      → (text_of first + ahead_of c rest ≤ peak_of (s ∷ rest))
+      × (text_of (unwrap_or second []) + ahead_of c rest ≤ peak_of (s ∷ rest))
   peak-if s rest first e None h = let k = ap (peak c) (body-first s rest (Do-F.If e first None) h) in (omega arith, omega arith)
-  peak-if s rest first e (Some second) h = let k = ap (peak c) (body-first s rest (Do-F.If e first (Some second)) h) in (omega arith, omega arith)
+  peak-if s rest first e (Some second) h = let k = ap (peak c) (body-first s rest (Do-F.If e first (Some second)) h) in
+      (omega arith, omega arith)
 
   -- a turn of a loop, and then the loop again
-  peak-turn : (x : Name) (set : List Bool) (body rest : List Stmt) (n : ℕ) → length (nodes_in set) ≤ 7 → 8 * (c.turn + text_of body) + c.turn + ahead_of c rest ≤ n → peak_of rest ≤ n
+  peak-turn : (x : Name) (set : List Bool) (body rest : List Stmt) (n : ℕ) → length (nodes_in set) ≤ 7 →
+      8 * (c.turn + text_of body) + c.turn + ahead_of c rest ≤ n → peak_of rest ≤ n
       → peak_of (body ++ each x set body ∷ rest) ≤ n
   peak-turn x set body rest n few le more =
       let all = peak-both body (each x set body ∷ rest) in

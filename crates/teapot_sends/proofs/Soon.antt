@@ -1,5 +1,6 @@
 -- A handler takes few steps.
-use Rattle.std.proofs.Common.{◌≡◌, ℕ, zero, suc, ◌+◌, ◌*◌, max, length, ◌≤◌, List, [], ◌∷◌, Some, None, refl, subst, arith, length-append}
+use Rattle.std.proofs.Common.{◌≡◌, ℕ, zero, suc, ◌+◌, ◌*◌, max, length, ◌≤◌, List, [], ◌∷◌, Some, None, refl, subst, arith}
+use Rattle.std.proofs.Common.{length-append}
 use Rattle.std.specs.Prelude.{Contains}
 use Rattle.tw_base.specs.Lists.{Each}
 use Rattle.tw_base.specs.declared.message.Message.{Message}
@@ -59,15 +60,21 @@ loop_cost t x y n m two i j = omega arith
 text-steps : (l : ℕ) (b : Body) → loops b ≤ l → eaches b ≡ 0 → in_text by_steps b ≤ times l * length (steps_in b)
 unfolding times
 text-steps l done few none = omega arith
-text-steps l (plain line s b) few none = plain_cost (times l) (in_text by_steps b) (length (steps_in b)) (times-least l) (text-steps l b few none)
+text-steps l (plain line s b) few none = plain_cost (times l) (in_text by_steps b) (length (steps_in b)) (times-least l)
+    (text-steps l b few none)
 text-steps l (branch line e x b) few none =
-    rw length-append (branch_cost (times l) (in_text by_steps x) (in_text by_steps b) (length (steps_in x)) (length (steps_in b)) (times-least l) (text-steps l x (omega arith) (omega arith)) (text-steps l b (omega arith) (omega arith)))
+    rw length-append (branch_cost (times l) (in_text by_steps x) (in_text by_steps b) (length (steps_in x))
+    (length (steps_in b)) (times-least l) (text-steps l x (omega arith) (omega arith))
+    (text-steps l b (omega arith) (omega arith)))
 text-steps l (branches line e x y b) few none =
-    rw (length-append, length-append) (branches_cost (times l) (in_text by_steps x) (in_text by_steps y) (in_text by_steps b) (length (steps_in x)) (length (steps_in y)) (length (steps_in b)) (times-least l)
-    (text-steps l x (omega arith) (omega arith)) (text-steps l y (omega arith) (omega arith)) (text-steps l b (omega arith) (omega arith)))
+    rw (length-append, length-append) (branches_cost (times l) (in_text by_steps x) (in_text by_steps y) (in_text by_steps b)
+    (length (steps_in x)) (length (steps_in y)) (length (steps_in b)) (times-least l)
+    (text-steps l x (omega arith) (omega arith)) (text-steps l y (omega arith) (omega arith))
+    (text-steps l b (omega arith) (omega arith)))
 text-steps zero (loop line v e x b) few none = absurd (omega arith)
 text-steps (suc l) (loop line v e x b) few none =
-    rw length-append (loop_cost (times l) (in_text by_steps x) (in_text by_steps b) (length (steps_in x)) (length (steps_in b)) (times-least l) (text-steps l x (omega arith) (omega arith)) (text-steps (suc l) b (omega arith) (omega arith)))
+    rw length-append (loop_cost (times l) (in_text by_steps x) (in_text by_steps b) (length (steps_in x)) (length (steps_in b))
+    (times-least l) (text-steps l x (omega arith) (omega arith)) (text-steps (suc l) b (omega arith) (omega arith)))
 text-steps l (each line v set x b) few none = absurd (omega arith)
 
 -- ---- steps
@@ -92,7 +99,8 @@ unfolding Falls
 next_falls p [] r = tt
 next_falls p (s ∷ rest) r = falls _ _ (next_of p (s ∷ rest) r) (one_step (what_of s)) (step_pays by_steps p s rest r)
 
-goes_soon : (p : Protocol) {stmts : List Stmt} {r : Running} {e : Ended} (g : Goes p stmts r e) → steps g ≤ due by_steps stmts r + 1
+goes_soon : (p : Protocol) {stmts : List Stmt} {r : Running} {e : Ended} (g : Goes p stmts r e) →
+    steps g ≤ due by_steps stmts r + 1
 unfolding Falls
 goes_soon p (ends h) = omega arith
 goes_soon p (goes_on {stmts = stmts} {r = r} h more) =
@@ -107,14 +115,17 @@ unfolding times
 handlers_cost p n a hold t h i j =
     let none : eaches (body_of h.body) ≡ 0 = in_protocol (λ (k : Handler). eaches (body_of k.body) ≡ 0) a.tree.no_each in
     let few : loops (body_of h.body) ≤ 4 = in_protocol (λ (k : Handler). loops (body_of k.body) ≤ 4) a.tree.few_loops in
-    let held : length (steps_in (body_of h.body)) ≤ n = in_protocol (λ (k : Handler). length (steps_in (body_of k.body)) ≤ n) hold in
-    let cost : in_text by_steps (body_of h.body) ≤ 8192 * length (steps_in (body_of h.body)) = text-steps 4 (body_of h.body) few none in
+    let held : length (steps_in (body_of h.body)) ≤ n = in_protocol
+    (λ (k : Handler). length (steps_in (body_of k.body)) ≤ n) hold in
+    let cost : in_text by_steps (body_of h.body) ≤ 8192 * length (steps_in (body_of h.body)) =
+    text-steps 4 (body_of h.body) few none in
     omega arith
   where
     in_protocol : (P : Handler → Type 0) → Each P (handlers_of p) → P h
     in_protocol P all = each_at P t.handlers h j (each_flat P (λ (d : State). d.handlers) p.states t i all)
 
-pub few_steps : (p : Protocol) (here : Here) (m : Message) (e : Ended) (n : ℕ) → IsAccepted p → Fits p here → HoldAtMost n p → (d : Does p here m e) → steps d.goes ≤ 73728 * n + 1
+pub few_steps : (p : Protocol) (here : Here) (m : Message) (e : Ended) (n : ℕ) → IsAccepted p → Fits p here → HoldAtMost n p →
+    (d : Does p here m e) → steps d.goes ≤ 73728 * n + 1
 few_steps p here m e n a fits hold d =
     let cost = handlers_cost p n a hold in
     let i : Contains p.states d.state = slice_has p.states (out-StateVal here.state).state d.state d.is_state in

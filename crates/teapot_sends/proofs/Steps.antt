@@ -1,5 +1,6 @@
 -- Each step costs its price, and leaves less by that.
-use Rattle.std.proofs.Common.{◌≡◌, ◌∙◌, sym, ℕ, ◌+◌, ◌*◌, length, ◌≤◌, List, [], ◌∷◌, Option, Some, None, Bool, true, false, max, refl, ap, subst, arith}
+use Rattle.std.proofs.Common.{◌≡◌, ◌∙◌, sym, ℕ, ◌+◌, ◌*◌, length, ◌≤◌, List, [], ◌∷◌, Option, Some, None, Bool, true, false}
+use Rattle.std.proofs.Common.{max, refl, ap, subst, arith}
 use Rattle.std.specs.Prelude.{if◌then◌else◌, nat_le, unwrap_or}
 use Rattle.tw_base.specs.NodeSets.{without}
 use Rattle.tw_base.specs.declared.name.Name.{Name}
@@ -13,7 +14,9 @@ use Rattle.teapot_tree.specs.Scopes.{state_number}
 use Rattle.teapot_meaning.specs.Depth.{depth, nodes_in}
 use Rattle.teapot_meaning.specs.Layers.{Layer, what_of}
 use Rattle.teapot_meaning.specs.Names.{declared}
-use Rattle.teapot_meaning.specs.Steps.{led_to, assigned, assigned_at, branch as branch_taken, each as each_left, least_of, moved, next_of, resumes, sent, sent_all, set_of, suspends, tagged, turned, turns, values_of}
+use Rattle.teapot_meaning.specs.Steps.{led_to, assigned, assigned_at, branch as branch_taken, each as each_left, least_of}
+use Rattle.teapot_meaning.specs.Steps.{moved, next_of, resumes, sent, sent_all, set_of, suspends, tagged, turned, turns}
+use Rattle.teapot_meaning.specs.Steps.{values_of}
 use Rattle.teapot_meaning.specs.Values.{value_of}
 use Rattle.teapot_meaning.specs.declared.state.Cont.{Cont}
 use Rattle.teapot_meaning.specs.declared.state.Ended.{Ended}
@@ -55,7 +58,8 @@ module _ (c : Price) where
   assigned-state r name x None (Some i) = refl
   assigned-state r name x None None = refl
 
-  branch-le : (x : Value) (first : List Stmt) (second : Option (List Stmt)) → ahead_of c (branch_taken x first second) ≤ max (in_text c (body_of first)) (in_text c (body_of (unwrap_or second [])))
+  branch-le : (x : Value) (first : List Stmt) (second : Option (List Stmt)) →
+      ahead_of c (branch_taken x first second) ≤ max (in_text c (body_of first)) (in_text c (body_of (unwrap_or second [])))
   unfolding branch_taken
   branch-le (v.Bool true) first second = let i = ahead-le c (body_of first) in omega arith
   branch-le (v.Bool false) first second = let i = ahead-le c (body_of (unwrap_or second [])) in omega arith
@@ -69,7 +73,8 @@ module _ (c : Price) where
   suspended_pays n paid true d e le = le
   suspended_pays n paid false d e le = le
 
-  resumed_pays : (paid : ℕ) (rest : List Stmt) (r : Running) (o : Option Cont) → owed c r.here.state ≡ cont_owed c o → Pays (paid + 0 + due rest r) paid (resumes r o)
+  resumed_pays : (paid : ℕ) (rest : List Stmt) (r : Running) (o : Option Cont) → owed c r.here.state ≡ cont_owed c o →
+      Pays (paid + 0 + due rest r) paid (resumes r o)
   unfolding resumes
   resumed_pays paid rest r (Some k) e = omega arith
   resumed_pays paid rest r None e = omega arith
@@ -84,8 +89,10 @@ module _ (c : Price) where
   one_more : (k n m : ℕ) → k + 1 ≡ n → n * m ≡ k * m + m
   one_more k n m e = ap (λ i. i * m) (sym e) ∙ grind arith
 
-  turned_pays : (p : Protocol) (x : Name) (set : List Bool) (o : Option ℕ) (body rest : List Stmt) (r : Running) → least_of set ≡ o
-      → Pays (length (nodes_in set) * (c.turn + in_text c (body_of body)) + c.turn + 0 + due rest r) c.turn (turned p x set o body rest r)
+  turned_pays : (p : Protocol) (x : Name) (set : List Bool) (o : Option ℕ) (body rest : List Stmt) (r : Running) →
+      least_of set ≡ o
+      → Pays (length (nodes_in set) * (c.turn + in_text c (body_of body)) + c.turn + 0 + due rest r) c.turn
+      (turned p x set o body rest r)
   unfolding assigned
   turned_pays p x set None body rest r e = omega arith
   turned_pays p x set (Some n) body rest r e =
@@ -93,10 +100,12 @@ module _ (c : Price) where
       let all = ahead-both c body (again ∷ rest) in
       let more = ahead-each c x (without set n) body rest in
       let once = ahead-le c (body_of body) in
-      let fewer = one_more (length (nodes_in (without set n))) (length (nodes_in set)) (c.turn + in_text c (body_of body)) (nodes_rest set n e) in
+      let fewer = one_more (length (nodes_in (without set n))) (length (nodes_in set)) (c.turn + in_text c (body_of body))
+      (nodes_rest set n e) in
       rw assigned-state (omega arith)
 
-  layer_pays : (p : Protocol) (l : Layer) (rest : List Stmt) (r : Running) → Pays (layer_ahead c l + due rest r) (price l) (led_to p l rest r)
+  layer_pays : (p : Protocol) (l : Layer) (rest : List Stmt) (r : Running) →
+      Pays (layer_ahead c l + due rest r) (price l) (led_to p l rest r)
   unfolding assigned sent sent_all moved suspends tagged turns
   layer_pays p (Do-F.Assign name e) rest r = rw assigned-state (omega arith)
   layer_pays p (Do-F.If e first None) rest r =
@@ -112,7 +121,12 @@ module _ (c : Price) where
   layer_pays p (Do-F.SetTag tag) rest r = omega arith
   layer_pays p (Do-F.SetState name args) rest r =
       let was = owed-is c r.here.state in
-      let is = owed-roll c (record { state = declared (state_number p name); args = values_of p r args; cont = (out-StateVal r.here.state).cont }) in
+      let is =
+      owed-roll c (record {
+        state = declared (state_number p name);
+        args = values_of p r args;
+        cont = (out-StateVal r.here.state).cont;
+      }) in
       omega arith
   layer_pays p (Do-F.Suspend label name args passed) rest r = suspended_pays _ _ (nat_le 8 (depth r.here.state)) _ _ (omega arith)
   layer_pays p (Do-F.Resume name) rest r = resumed_pays _ rest r (out-StateVal r.here.state).cont (owed-is c r.here.state)
@@ -123,7 +137,8 @@ module _ (c : Price) where
   layer_pays p Do-F.WakeUp rest r = omega arith
   layer_pays p (Do-F.Error name) rest r = omega arith
 
-  pub step_pays : (p : Protocol) (s : Stmt) (rest : List Stmt) (r : Running) → Pays (due (s ∷ rest) r) (price (what_of s)) (next_of p (s ∷ rest) r)
+  pub step_pays : (p : Protocol) (s : Stmt) (rest : List Stmt) (r : Running) →
+      Pays (due (s ∷ rest) r) (price (what_of s)) (next_of p (s ∷ rest) r)
   step_pays p s rest r =
       let e : layer_ahead c (what_of s) + due rest r ≡ due (s ∷ rest) r = omega (arith, ahead-first c s rest (what_of s) refl) in
       subst (λ n. Pays n (price (what_of s)) (next_of p (s ∷ rest) r)) e (layer_pays p (what_of s) rest r)

@@ -2,7 +2,9 @@
 use Rattle.std.proofs.Common.{◌≡◌, ℕ, zero, suc, ◌<◌, ◌≤◌, refl, ap, sym, ◌∙◌, arith, inl, inr, ◌⊎◌}
 use Rattle.teapot_tree.specs.declared.protocol.Protocol.{Protocol}
 use Rattle.teapot_tree.specs.declared.rule.Rule.{Rule}
-use Rattle.teapot_tree.specs.declared.rule.Rule.TheVariants.{Undeclared, Twice, WrongType, ArgCount, NoDefault, ContDropped, ResumeNotLast, ResumeForeign, AfterSuspend, NoData, TooManySends, NotTwoStarts}
+use Rattle.teapot_tree.specs.declared.rule.Rule.TheVariants.{Undeclared, Twice, WrongType, ArgCount, NoDefault, ContDropped}
+use Rattle.teapot_tree.specs.declared.rule.Rule.TheVariants.{ResumeNotLast, ResumeForeign, AfterSuspend, NoData, TooManySends}
+use Rattle.teapot_tree.specs.declared.rule.Rule.TheVariants.{NotTwoStarts}
 use Rattle.teapot_tree.specs.Rules.{rank, IsFirstBreak}
 
 abbrev ranked : ℕ → Rule
@@ -42,7 +44,8 @@ meet l m a b (inl h) (inr k) = absurd (omega (arith, k.0))
 meet l m a b (inr h) (inl k) = absurd (omega (arith, h.0))
 meet l m a b (inr h) (inr k) = (h.0, omega (arith, h.1, k.1))
 
-pub one_first : (p : Protocol) (line l : ℕ) (rule r : Rule) → IsFirstBreak p line rule → IsFirstBreak p l r → (line ≡ l) × (rule ≡ r)
+pub one_first : (p : Protocol) (line l : ℕ) (rule r : Rule) → IsFirstBreak p line rule → IsFirstBreak p l r →
+    (line ≡ l) × (rule ≡ r)
 one_first p line l rule r f g =
     let m = meet line l (rank rule) (rank r) (f.first l r g.broken) (g.first line rule f.broken) in
     (m.0, rank-same rule r m.1)

@@ -21,7 +21,17 @@ use Rattle.teapot_tree.specs.contracts.checked.Checked as checked
 pub expr_sync : IsSync expr.the_row
 expr_sync = search (sendable, expr_knot.sync-Expr, name.the_sync, boxed.the_sync) depth 30 fits 50000
 
-ruleset parts = (sendable, expr_knot.sync-Expr, listed.the_sync, expr_sync, name.the_sync, nodes.the_sync, tag.the_sync, op.the_sync, boxed.the_sync)
+ruleset parts = (
+  sendable,
+  expr_knot.sync-Expr,
+  listed.the_sync,
+  expr_sync,
+  name.the_sync,
+  nodes.the_sync,
+  tag.the_sync,
+  op.the_sync,
+  boxed.the_sync,
+)
 
 pub stmt_sync : IsSync stmt.the_field.row
 stmt_sync =
@@ -42,10 +52,19 @@ pub state_sync : IsSync state.the_row
 state_sync = search (sendable, listed.the_sync, name.the_sync, param.the_sync, handler_sync) depth 20
 
 pub protocol_sync : IsSync protocol.the_row
-protocol_sync = search (sendable, listed.the_sync, name.the_sync, param.the_sync, message.the_sync, start.the_sync, state_sync) depth 20
+protocol_sync = search (sendable, listed.the_sync, name.the_sync, param.the_sync, message.the_sync, start.the_sync, state_sync)
+    depth 20
 
 pub protocol_field_sync : IsSync protocol.the_field.row
-protocol_field_sync = search (sendable, listed.the_sync, name.the_sync, param.the_sync, message.the_sync, start.the_sync, state_sync) depth 20
+protocol_field_sync = search (
+  sendable,
+  listed.the_sync,
+  name.the_sync,
+  param.the_sync,
+  message.the_sync,
+  start.the_sync,
+  state_sync,
+) depth 20
 
 pub checked_sync : IsSync checked.the_row
 checked_sync = search (sendable, protocol_field_sync) depth 8

@@ -31,7 +31,13 @@ abbrev pub bare_handler : Handler → Handler
 bare_handler h = record { on = h.on; args = h.args; locals = map bare_param h.locals; body = bare_all h.body; line = 0 }
 
 abbrev pub bare_state : State → State
-bare_state s = record { name = s.name; params = map bare_param s.params; cont = s.cont; handlers = map bare_handler s.handlers; line = 0 }
+bare_state s = record {
+  name = s.name;
+  params = map bare_param s.params;
+  cont = s.cont;
+  handlers = map bare_handler s.handlers;
+  line = 0;
+}
 
 abbrev pub bare_protocol : Protocol → Protocol
 bare_protocol p = record {

@@ -10,7 +10,8 @@ use Rattle.teapot_tree.specs.declared.protocol.Protocol.{Protocol}
 use Rattle.teapot_tree.specs.declared.protocol.State.{State}
 use Rattle.teapot_tree.specs.declared.protocol.Trigger.{Trigger}
 use Rattle.teapot_tree.specs.declared.protocol.Trigger.TheVariants as t
-use Rattle.teapot_tree.specs.Bodies.{Simple, assign, send, send_all, set_tag, set_state, suspend, resume, install, enqueue, wake_up, error, Body, done, plain, branch, branches, loop, each, body_of}
+use Rattle.teapot_tree.specs.Bodies.{Simple, assign, send, send_all, set_tag, set_state, suspend, resume, install, enqueue}
+use Rattle.teapot_tree.specs.Bodies.{wake_up, error, Body, done, plain, branch, branches, loop, each, body_of}
 
 -- ---- expressions
 
@@ -142,7 +143,8 @@ option_words (Some n) = n ∷ []
 
 abbrev pub handler_names : Handler → List Name
 handler_names h =
-    trigger_words h.on ++ (h.args ++ (map (λ a. a.name) h.locals ++ (words_in (body_of h.body) ++ flat_map names_in (exprs_of h))))
+    trigger_words h.on
+    ++ (h.args ++ (map (λ a. a.name) h.locals ++ (words_in (body_of h.body) ++ flat_map names_in (exprs_of h))))
 
 abbrev pub state_names : State → List Name
 state_names s = s.name ∷ (map (λ a. a.name) s.params ++ (option_words s.cont ++ flat_map handler_names s.handlers))
@@ -150,4 +152,5 @@ state_names s = s.name ∷ (map (λ a. a.name) s.params ++ (option_words s.cont 
 -- every name that stands in the tree
 abbrev pub names_of : Protocol → List Name
 names_of p =
-    p.name ∷ (map (λ m. m.name) p.messages ++ (map (λ a. a.name) p.infos ++ (map (λ s. s.state) p.starts ++ flat_map state_names p.states)))
+    p.name ∷ (map (λ m. m.name) p.messages ++ (map (λ a. a.name) p.infos
+    ++ (map (λ s. s.state) p.starts ++ flat_map state_names p.states)))

@@ -2,7 +2,8 @@
 use Rattle.std.specs.Prelude.{◌≡◌, ℕ, ◌+◌, ◌*◌, Bool, true, false, List, [], ◌∷◌, ◌++◌, ◌⊎◌}
 use Rattle.tw_base.specs.declared.name.Name.{Name}
 use Rattle.teapot_tree.specs.declared.expr.Expr.{Expr}
-use Rattle.teapot_tree.specs.Bodies.{Simple, send, send_all, suspend, resume, install, enqueue, Body, done, plain, branch, branches, loop, each}
+use Rattle.teapot_tree.specs.Bodies.{Simple, send, send_all, suspend, resume, install, enqueue, Body, done, plain, branch}
+use Rattle.teapot_tree.specs.Bodies.{branches, loop, each}
 
 -- what a statement does where it is met: an If tests, a ForEach repeats. A loop on its way stands in no text
 pub data Deed : Type 0 where
@@ -32,13 +33,18 @@ steps_in (each line n s x b) = step line goes_on ∷ steps_in b
 pub data Path : Body → List Step → Type 0 where
   ends : Path done []
   goes : {n : ℕ} {s : Simple} {b : Body} {p : List Step} → Path b p → Path (plain n s b) (step n (does s) ∷ p)
-  taken : {n : ℕ} {e : Expr} {x b : Body} {p q : List Step} → Path x p → Path b q → Path (branch n e x b) (step n (tests e) ∷ (p ++ q))
+  taken : {n : ℕ} {e : Expr} {x b : Body} {p q : List Step} → Path x p → Path b q →
+      Path (branch n e x b) (step n (tests e) ∷ (p ++ q))
   passed : {n : ℕ} {e : Expr} {x b : Body} {q : List Step} → Path b q → Path (branch n e x b) (step n (tests e) ∷ q)
-  first : {n : ℕ} {e : Expr} {x y b : Body} {p q : List Step} → Path x p → Path b q → Path (branches n e x y b) (step n (tests e) ∷ (p ++ q))
-  second : {n : ℕ} {e : Expr} {x y b : Body} {p q : List Step} → Path y p → Path b q → Path (branches n e x y b) (step n (tests e) ∷ (p ++ q))
+  first : {n : ℕ} {e : Expr} {x y b : Body} {p q : List Step} → Path x p → Path b q →
+      Path (branches n e x y b) (step n (tests e) ∷ (p ++ q))
+  second : {n : ℕ} {e : Expr} {x y b : Body} {p q : List Step} → Path y p → Path b q →
+      Path (branches n e x y b) (step n (tests e) ∷ (p ++ q))
   never : {n : ℕ} {v : Name} {e : Expr} {x b : Body} {q : List Step} → Path b q → Path (loop n v e x b) (step n (repeats v e) ∷ q)
-  once : {n : ℕ} {v : Name} {e : Expr} {x b : Body} {p q : List Step} → Path x p → Path b q → Path (loop n v e x b) (step n (repeats v e) ∷ (p ++ q))
-  twice : {n : ℕ} {v : Name} {e : Expr} {x b : Body} {p r q : List Step} → Path x p → Path x r → Path b q → Path (loop n v e x b) (step n (repeats v e) ∷ (p ++ (r ++ q)))
+  once : {n : ℕ} {v : Name} {e : Expr} {x b : Body} {p q : List Step} → Path x p → Path b q →
+      Path (loop n v e x b) (step n (repeats v e) ∷ (p ++ q))
+  twice : {n : ℕ} {v : Name} {e : Expr} {x b : Body} {p r q : List Step} → Path x p → Path x r → Path b q →
+      Path (loop n v e x b) (step n (repeats v e) ∷ (p ++ (r ++ q)))
   over : {n : ℕ} {v : Name} {s : List Bool} {x b : Body} {q : List Step} → Path b q → Path (each n v s x b) (step n goes_on ∷ q)
 
 -- ---- what is met on a path

@@ -1,5 +1,6 @@
 -- What a protocol may break of the rules of the language, and at which line.
-use Rattle.std.specs.Prelude.{◌≡◌, ◌<◌, ◌≤◌, ◌⊎◌, ℕ, Bool, true, false, not, ◌&&◌, ◌||◌, ◌==◌, List, [], ◌∷◌, ◌++◌, map, length, Option, Some, None, is_some, is_none}
+use Rattle.std.specs.Prelude.{◌≡◌, ◌<◌, ◌≤◌, ◌⊎◌, ℕ, Bool, true, false, not, ◌&&◌, ◌||◌, ◌==◌, List, [], ◌∷◌, ◌++◌, map, length}
+use Rattle.std.specs.Prelude.{Option, Some, None, is_some, is_none}
 use Rattle.std.specs.List.{list_all}
 use Rattle.std.specs.Str.{bytes_eq}
 use Rattle.tw_base.specs.declared.name.Name.{Name}
@@ -15,12 +16,16 @@ use Rattle.teapot_tree.specs.declared.protocol.Trigger.TheVariants as t
 use Rattle.teapot_tree.specs.declared.protocol.ValType.{ValType}
 use Rattle.teapot_tree.specs.declared.protocol.ValType.TheVariants.{Node, Set, Bool as Truth}
 use Rattle.teapot_tree.specs.declared.rule.Rule.{Rule}
-use Rattle.teapot_tree.specs.declared.rule.Rule.TheVariants.{Undeclared, Twice, WrongType, ArgCount, NoDefault, ContDropped, ResumeNotLast, ResumeForeign, AfterSuspend, NoData, TooManySends, NotTwoStarts}
+use Rattle.teapot_tree.specs.declared.rule.Rule.TheVariants.{Undeclared, Twice, WrongType, ArgCount, NoDefault, ContDropped}
+use Rattle.teapot_tree.specs.declared.rule.Rule.TheVariants.{ResumeNotLast, ResumeForeign, AfterSuspend, NoData, TooManySends}
+use Rattle.teapot_tree.specs.declared.rule.Rule.TheVariants.{NotTwoStarts}
 use Rattle.teapot_tree.specs.Bodies.{assign, send, send_all, set_state, suspend, resume, install, Body, body_of}
 use Rattle.teapot_tree.specs.Grammar.{IsTree}
 use Rattle.teapot_tree.specs.Parts.{names_in, simple_exprs}
-use Rattle.teapot_tree.specs.Paths.{Deed, does, tests, repeats, goes_on, Step, steps_in, Path, is_enqueue, is_install, is_suspend, is_resume, Follows, NotLast, Sends}
-use Rattle.teapot_tree.specs.Scopes.{message_of, state_of, Scope, args_of, taken_message, locals_in, assignable, visible, is_among, type_among, is_of, type_of}
+use Rattle.teapot_tree.specs.Paths.{Deed, does, tests, repeats, goes_on, Step, steps_in, Path, is_enqueue, is_install}
+use Rattle.teapot_tree.specs.Paths.{is_suspend, is_resume, Follows, NotLast, Sends}
+use Rattle.teapot_tree.specs.Scopes.{message_of, state_of, Scope, args_of, taken_message, locals_in, assignable, visible}
+use Rattle.teapot_tree.specs.Scopes.{is_among, type_among, is_of, type_of}
 
 -- some item has the property
 abbrev pub Any : {X : Type 0} → (X → Type 0) → List X → Type 0
@@ -123,8 +128,10 @@ lacks_cont (Some s) = is_none s.cont
 abbrev pub is_counted : Scope → Deed → Bool
 is_counted c (does (send e n xs)) = is_message_count (message_of c.protocol n) (length xs)
 is_counted c (does (send_all e n xs)) = is_message_count (message_of c.protocol n) (length xs)
-is_counted c (does (set_state n xs)) = is_state_count (state_of c.protocol n) (length xs) && (is_some c.state.cont || not (has_cont (state_of c.protocol n)))
-is_counted c (does (suspend l n xs p)) = is_state_count (state_of c.protocol n) (length xs) && not (lacks_cont (state_of c.protocol n))
+is_counted c (does (set_state n xs)) = is_state_count (state_of c.protocol n)
+    (length xs) && (is_some c.state.cont || not (has_cont (state_of c.protocol n)))
+is_counted c (does (suspend l n xs p)) = is_state_count (state_of c.protocol n) (length xs) && not
+    (lacks_cont (state_of c.protocol n))
 is_counted c _ = true
 
 abbrev pub has_wrong_count : Scope → Deed → Bool
@@ -163,7 +170,8 @@ abbrev pub OnPath : (List Step → Type 0) → Scope → Type 0
 OnPath P c = (p : List Step) × Path (body_in c) p × P p
 
 abbrev pub InHandler : (Scope → Type 0) → Protocol → Type 0
-InHandler P p = Any (λ (s : State). Any (λ (h : Handler). P (record { protocol = p; state = s; handler = h })) s.handlers) p.states
+InHandler P p = Any (λ (s : State). Any (λ (h : Handler). P (record { protocol = p; state = s; handler = h })) s.handlers)
+    p.states
 
 abbrev pub answers_undeclared : Protocol → Trigger → Bool
 answers_undeclared p (t.Named n) = is_none (message_of p n)

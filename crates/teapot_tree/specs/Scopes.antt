@@ -77,7 +77,9 @@ assignable c = infos_in c ++ locals_in c
 -- the infos, the state's arguments, the message's arguments and the locals
 abbrev pub visible : Scope → List Variable
 visible c =
-    infos_in c ++ (map of_param c.state.params ++ (typed c.handler.args (args_of (taken_message c.protocol c.handler.on)) ++ locals_in c))
+    infos_in c
+    ++ (map of_param c.state.params ++ (typed c.handler.args (args_of (taken_message c.protocol c.handler.on))
+    ++ locals_in c))
 
 abbrev pub variable : List Variable → Name → Option Variable
 variable vs n = find (λ v. bytes_eq v.name n) vs

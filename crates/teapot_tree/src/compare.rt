@@ -1,5 +1,6 @@
 ghost use Rattle.std.specs.Prelude.{◌≡◌, ◌↔◌, IsTrue, map};
-ghost use Rattle.teapot_tree.specs.Bare.{bare, bare_all, bare_do, bare_handler, bare_message, bare_param, bare_protocol, bare_start, bare_state};
+ghost use Rattle.teapot_tree.specs.Bare.{bare, bare_all, bare_do, bare_handler, bare_message, bare_param, bare_protocol};
+ghost use Rattle.teapot_tree.specs.Bare.{bare_start, bare_state};
 
 use crate::{
     Do, Expr, Handler, MessageDecl, Param, Protocol, Start, State, Stmt, Trigger, ValType,

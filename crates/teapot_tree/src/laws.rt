@@ -13,5 +13,6 @@ pub fn trees()
 
 /// There is at most one first break.
 pub fn one_first_break()
-    ensures { (p : Protocol) (line l : ℕ) (rule r : Rule) → IsFirstBreak p line rule → IsFirstBreak p l r → (line ≡ l) × (rule ≡ r) }
+    ensures { (p : Protocol) (line l : ℕ) (rule r : Rule) → IsFirstBreak p line rule → IsFirstBreak p l r →
+        (line ≡ l) × (rule ≡ r) }
 {}

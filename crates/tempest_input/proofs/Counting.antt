@@ -24,7 +24,8 @@ lexed-count : (text : List ℕ) (found : Lexed) → lexed text ≡ Ok found → 
 unfolding lexed
 lexed-count text found e = go (lines_from 1 0 (lines_of text)) e
   where
-    go : (r : Result (List Line) LexError) → (r >>= λ ls. Ok (record { all = length (lines_of text); list = ls })) ≡ Ok found → found.all ≤ length text
+    go : (r : Result (List Line) LexError) → (r >>= λ ls. Ok (record { all = length (lines_of text); list = ls })) ≡ Ok found →
+        found.all ≤ length text
     go (Ok ls) f =
         let same : record { all = length (lines_of text); list = ls } ≡ found = cc f in
         subst (λ n. n ≤ length text) (ap (λ x. x.all) same) (few_lines text)

@@ -16,10 +16,12 @@ pub with_front-nil : {X : Type 0} (rest : Result (List X × List Line) InputErro
 with_front-nil (Ok r) = refl
 with_front-nil (Err e) = refl
 
-pub before-regroup : {X : Type 0} (front : List X) (x : X) (rest : List X × List Line) → before front (x ∷ rest.0, rest.1) ≡ before (front ++ x ∷ []) rest
+pub before-regroup : {X : Type 0} (front : List X) (x : X) (rest : List X × List Line) →
+    before front (x ∷ rest.0, rest.1) ≡ before (front ++ x ∷ []) rest
 before-regroup front x rest = λ j. (sym (append_assoc front (x ∷ []) rest.0) j, rest.1)
 
-pub regroup : {X : Type 0} (front : List X) (x : X) (rest : Result (List X × List Line) InputError) → with_front front (rest >>= λ r. Ok (x ∷ r.0, r.1)) ≡ with_front (front ++ x ∷ []) rest
+pub regroup : {X : Type 0} (front : List X) (x : X) (rest : Result (List X × List Line) InputError) →
+    with_front front (rest >>= λ r. Ok (x ∷ r.0, r.1)) ≡ with_front (front ++ x ∷ []) rest
 regroup front x (Ok r) = ap Ok (before-regroup front x r)
 regroup front x (Err e) = refl
 
@@ -35,6 +37,7 @@ pub with_lines-nil : (rest : Result (Body × List Line) InputError) → with_lin
 with_lines-nil (Ok b) = refl
 with_lines-nil (Err e) = refl
 
-pub regroup-lines : (front : List Line) (l : Line) (rest : Result (Body × List Line) InputError) → with_lines front (rest >>= λ b. Ok (with_line l b)) ≡ with_lines (front ++ l ∷ []) rest
+pub regroup-lines : (front : List Line) (l : Line) (rest : Result (Body × List Line) InputError) →
+    with_lines front (rest >>= λ b. Ok (with_line l b)) ≡ with_lines (front ++ l ∷ []) rest
 regroup-lines front l (Ok b) = ap Ok (λ j. (record { lines = sym (append_assoc front (l ∷ []) b.0.lines) j; end = b.0.end }, b.1))
 regroup-lines front l (Err e) = refl

@@ -1,5 +1,7 @@
 -- What settings keep: a program for each node, of the instructions of the version, and words that are given once.
-use Rattle.std.proofs.Common.{◌≡◌, ◌⊎◌, ℕ, zero, suc, ◌<◌, ◌≤◌, Bool, true, false, not, List, [], ◌∷◌, ◌++◌, length, Option, Some, None, Result, Ok, Err, position, slice_get, unwrap_or, refl, sym, ap, subst, inl, inr, arith, nat_lt}
+use Rattle.std.proofs.Common.{◌≡◌, ◌⊎◌, ℕ, zero, suc, ◌<◌, ◌≤◌, Bool, true, false, not, List, [], ◌∷◌, ◌++◌, length, Option}
+use Rattle.std.proofs.Common.{Some, None, Result, Ok, Err, position, slice_get, unwrap_or, refl, sym, ap, subst, inl, inr}
+use Rattle.std.proofs.Common.{arith, nat_lt}
 use Rattle.std.proofs.lemmas.Bool.{eqb-false, ltb-true}
 use Rattle.std.proofs.lemmas.List.{length-append}
 use Rattle.std.specs.Prelude.{◌==◌, ◌||◌}
@@ -39,7 +41,8 @@ apart-push : (a : ℕ) (done : List (ℕ × ℕ)) (w : ℕ × ℕ) → IsApart a
 apart-push a [] w h d = (d, tt)
 apart-push a (g ∷ done) w h d = (h.0, apart-push a done w h.1 d)
 
-init-push : (size : ℕ) (done : List (ℕ × ℕ)) (w : ℕ × ℕ) → IsInit size done → w.0 < size → IsApart w.0 done → IsInit size (done ++ w ∷ [])
+init-push : (size : ℕ) (done : List (ℕ × ℕ)) (w : ℕ × ℕ) → IsInit size done → w.0 < size → IsApart w.0 done →
+    IsInit size (done ++ w ∷ [])
 init-push size [] w h lt p = (lt, tt, tt)
 init-push size (g ∷ done) w h lt p = (h.0, apart-push g.0 done w h.1 (λ e. p.0 (sym e)), init-push size done w h.2 lt p.1)
 
@@ -48,7 +51,9 @@ word : (size : ℕ) (done : List (ℕ × ℕ)) (i : Init) (w : ℕ × ℕ) → w
 unfolding word_in
 word size done i w e = go (nat_lt i.address size) refl (is_given done i.address) refl e
   where
-    go : (v : Bool) → nat_lt i.address size ≡ v → (g : Bool) → is_given done i.address ≡ g → (unless v i.line OutOfRange >>= λ a. unless (not g) i.line Repeated >>= λ b. Ok (i.address, i.value)) ≡ Ok w → (w.0 < size) × IsApart w.0 done
+    go : (v : Bool) → nat_lt i.address size ≡ v → (g : Bool) → is_given done i.address ≡ g →
+        (unless v i.line OutOfRange >>= λ a. unless (not g) i.line Repeated >>= λ b. Ok (i.address, i.value)) ≡ Ok w →
+        (w.0 < size) × IsApart w.0 done
     go true within false once f =
         let same : ◌≡◌ {A = ℕ × ℕ} (i.address, i.value) w = cc f in
         subst (λ (x : ℕ × ℕ). (x.0 < size) × IsApart x.0 done) same (ltb-true i.address size within, apart done i.address once)
@@ -77,11 +82,14 @@ in_program-ok (Err (LabelTwice line)) p e = absurd (cc e)
 in_program-ok (Err (NoLabel line)) p e = absurd (cc e)
 in_program-ok (Err Memory) p e = absurd (cc e)
 
-parsed-plain : (version : ℕ) (sections : List Section) (programs : List (List Instr)) → version < 2 → parsed version sections ≡ Ok programs → Each IsPlain programs
+parsed-plain : (version : ℕ) (sections : List Section) (programs : List (List Instr)) → version < 2 →
+    parsed version sections ≡ Ok programs → Each IsPlain programs
 parsed-plain version sections programs first e = gathered-keeps (Each IsPlain) (program_in version) (λ done s p h f.
-    each-push IsPlain done p h (program_of-other version s.body.lines p (in_program-ok (program_of version s.body.lines) p f) first)) [] sections programs tt e
+    each-push IsPlain done p h (program_of-other version s.body.lines p
+    (in_program-ok (program_of version s.body.lines) p f) first)) [] sections programs tt e
 
-found-plain : (programs : List (List Instr)) (k : ℕ) → Each IsPlain programs → IsPlain (unwrap_or (slice_get programs k) (Halt ∷ []))
+found-plain : (programs : List (List Instr)) (k : ℕ) → Each IsPlain programs →
+    IsPlain (unwrap_or (slice_get programs k) (Halt ∷ []))
 found-plain [] k h = refl
 found-plain (p ∷ programs) zero h = h.0
 found-plain (p ∷ programs) (suc k) h = found-plain programs k h.1
@@ -90,12 +98,15 @@ at-plain : (programs : List (List Instr)) (place : Option ℕ) → Each IsPlain 
 at-plain programs None h = refl
 at-plain programs (Some k) h = found-plain programs k h
 
-below-plain : (nodes : List ℕ) (programs : List (List Instr)) (n : ℕ) → Each IsPlain programs → Each IsPlain (each_below (program_for nodes programs) n)
+below-plain : (nodes : List ℕ) (programs : List (List Instr)) (n : ℕ) → Each IsPlain programs →
+    Each IsPlain (each_below (program_for nodes programs) n)
 below-plain nodes programs zero h = tt
 below-plain nodes programs (suc n) h =
-    each-push IsPlain (each_below (program_for nodes programs) n) (program_for nodes programs n) (below-plain nodes programs n h) (at-plain programs (position (λ k. k == n) nodes) h)
+    each-push IsPlain (each_below (program_for nodes programs) n) (program_for nodes programs n)
+    (below-plain nodes programs n h) (at-plain programs (position (λ k. k == n) nodes) h)
 
-pub programs-plain : (version : ℕ) (sections : List Section) (done : List (List Instr)) (nodes : List ℕ) (n : ℕ) → parsed version sections ≡ Ok done
+pub programs-plain : (version : ℕ) (sections : List Section) (done : List (List Instr)) (nodes : List ℕ) (n : ℕ) →
+    parsed version sections ≡ Ok done
     → version ≡ 1 → Each IsPlain (each_below (program_for nodes done) n)
 programs-plain version sections done nodes n e one = below-plain nodes done n (parsed-plain version sections done (omega arith) e)
 

@@ -61,7 +61,8 @@ pub record IsSection (s : Section) (lines : List Line) : Type 0 where
 -- one section after the other
 abbrev pub IsSections : List Section → List Line → Type 0
 IsSections [] lines = lines ≡ []
-IsSections (s ∷ ss) lines = (front : List Line) × (back : List Line) × (lines ≡ front ++ back) × IsSection s front × IsSections ss back
+IsSections (s ∷ ss) lines = (front : List Line) × (back : List Line) × (lines ≡ front ++ back) × IsSection s front
+    × IsSections ss back
 
 -- the line `protocol`, the lines of the protocol, and the line `end`
 pub record IsOwn (line : ℕ) (body : Body) (lines : List Line) : Type 0 where
@@ -143,17 +144,20 @@ pub record IsMisfit (ending : Ending) (all : ℕ) (lines : List Line) (e : Input
 
 -- the line that lines are refused at is the first that does not fit
 abbrev pub MisfitIsFirst : Type 0
-MisfitIsFirst = (ending : Ending) (all : ℕ) (lines : List Line) (e : InputError) → laid_out ending all lines ≡ Err e → IsMisfit ending all lines e
+MisfitIsFirst = (ending : Ending) (all : ℕ) (lines : List Line) (e : InputError) → laid_out ending all lines ≡ Err e →
+    IsMisfit ending all lines e
 
 -- and it is for no other line
 abbrev pub MisfitIsOne : Type 0
-MisfitIsOne = (ending : Ending) (all : ℕ) (lines : List Line) (e : InputError) → IsMisfit ending all lines e → laid_out ending all lines ≡ Err e
+MisfitIsOne = (ending : Ending) (all : ℕ) (lines : List Line) (e : InputError) → IsMisfit ending all lines e →
+    laid_out ending all lines ≡ Err e
 
 -- ---- what a text is refused for
 
 -- the text has tokens throughout, and its lines are this layout, with some report where they end so
 abbrev pub IsRead : Ending → List ℕ → Layout → Type 0
-IsRead ending text l = (found : Lexed) × (report : Body) × (lexed text ≡ Ok found) × IsLaidOut ending found.all found.list l report
+IsRead ending text l = (found : Lexed) × (report : Body) × (lexed text ≡ Ok found)
+    × IsLaidOut ending found.all found.list l report
 
 -- What a text is refused for, kind by kind in the order of refusals: each kind says that those above it do not apply.
 pub data IsRefused (ending : Ending) (text : List ℕ) (line : ℕ) (why : Why) : Type 0 where
@@ -161,34 +165,42 @@ pub data IsRefused (ending : Ending) (text : List ℕ) (line : ℕ) (why : Why) 
   not_ascii : lexed text ≡ Err (lexical.NotAscii line) → why ≡ whys.NotAscii → IsRefused ending text line why
   bad_token : lexed text ≡ Err (lexical.BadToken line) → why ≡ whys.BadToken → IsRefused ending text line why
   -- its first line that does not fit
-  misfits : (found : Lexed) → lexed text ≡ Ok found → laid_out ending found.all found.list ≡ Err (Refused line why) → IsRefused ending text line why
+  misfits : (found : Lexed) → lexed text ≡ Ok found → laid_out ending found.all found.list ≡ Err (Refused line why) →
+      IsRefused ending text line why
   -- its first number of the header that is out of its limits
   bad_size : (l : Layout) → IsRead ending text l → sizes_of l ≡ Err (Refused line why) → IsRefused ending text line why
   -- its first word at the start that is out of the memory, or given before
-  bad_word : (l : Layout) (sizes : Sizes) → IsRead ending text l → sizes_of l ≡ Ok sizes → words_of (sizes.words * sizes.blocks) l.inits ≡ Err (Refused line why) → IsRefused ending text line why
+  bad_word : (l : Layout) (sizes : Sizes) → IsRead ending text l → sizes_of l ≡ Ok sizes →
+      words_of (sizes.words * sizes.blocks) l.inits ≡ Err (Refused line why) → IsRefused ending text line why
   -- its first program of no node, or of a node that has one
-  bad_node : (l : Layout) (sizes : Sizes) (init : List (ℕ × ℕ)) → IsRead ending text l → sizes_of l ≡ Ok sizes → words_of (sizes.words * sizes.blocks) l.inits ≡ Ok init
+  bad_node : (l : Layout) (sizes : Sizes) (init : List (ℕ × ℕ)) → IsRead ending text l → sizes_of l ≡ Ok sizes →
+      words_of (sizes.words * sizes.blocks) l.inits ≡ Ok init
       → nodes_of sizes.nodes l.programs ≡ Err (Refused line why) → IsRefused ending text line why
   -- the first fault of its first program with a fault
-  bad_program : (l : Layout) (sizes : Sizes) (init : List (ℕ × ℕ)) (nodes : List ℕ) → IsRead ending text l → sizes_of l ≡ Ok sizes → words_of (sizes.words * sizes.blocks) l.inits ≡ Ok init
-      → nodes_of sizes.nodes l.programs ≡ Ok nodes → parsed l.version.value l.programs ≡ Err (Refused line why) → IsRefused ending text line why
+  bad_program : (l : Layout) (sizes : Sizes) (init : List (ℕ × ℕ)) (nodes : List ℕ) → IsRead ending text l →
+      sizes_of l ≡ Ok sizes → words_of (sizes.words * sizes.blocks) l.inits ≡ Ok init
+      → nodes_of sizes.nodes l.programs ≡ Ok nodes → parsed l.version.value l.programs ≡ Err (Refused line why) →
+      IsRefused ending text line why
 
 -- a text sets something up or is refused at a line
 abbrev pub InputIsValidOrRefused : Type 0
 InputIsValidOrRefused =
     (ending : Ending) (text : List ℕ)
-    → ((s : Settings) × (report : Body) × (settings_and_report ending text ≡ Ok (s, report))) ⊎ ((line : ℕ) × (why : Why) × IsRefused ending text line why)
+    → ((s : Settings) × (report : Body) × (settings_and_report ending text ≡ Ok (s, report)))
+    ⊎ ((line : ℕ) × (why : Why) × IsRefused ending text line why)
 
 -- never both
 abbrev pub InputIsNeverBoth : Type 0
 InputIsNeverBoth =
-    (ending : Ending) (text : List ℕ) (s : Settings) (report : Body) (line : ℕ) (why : Why) → settings_and_report ending text ≡ Ok (s, report)
+    (ending : Ending) (text : List ℕ) (s : Settings) (report : Body) (line : ℕ) (why : Why) →
+    settings_and_report ending text ≡ Ok (s, report)
     → ¬ IsRefused ending text line why
 
 -- and at one line for one reason
 abbrev pub RefusalIsOne : Type 0
 RefusalIsOne =
-    (ending : Ending) (text : List ℕ) (line other : ℕ) (why reason : Why) → IsRefused ending text line why → IsRefused ending text other reason
+    (ending : Ending) (text : List ℕ) (line other : ℕ) (why reason : Why) → IsRefused ending text line why →
+    IsRefused ending text other reason
     → (line ≡ other) × (why ≡ reason)
 
 -- the refusal that is found is of one of the kinds, and each of a kind is found

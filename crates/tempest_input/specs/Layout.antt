@@ -1,5 +1,6 @@
 -- The layout of a text: the lines of the header, the sections of programs, the protocol, and what ends it.
-use Rattle.std.specs.Prelude.{◌≡◌, ℕ, zero, suc, ◌+◌, ◌==◌, if◌then◌else◌, Bool, true, false, List, [], ◌∷◌, length, Option, Some, None, Result, Ok, Err}
+use Rattle.std.specs.Prelude.{◌≡◌, ℕ, zero, suc, ◌+◌, ◌==◌, if◌then◌else◌, Bool, true, false, List, [], ◌∷◌, length, Option}
+use Rattle.std.specs.Prelude.{Some, None, Result, Ok, Err}
 use Rattle.tw_base.specs.Answers.{◌>>=◌, Fails}
 use Rattle.tw_lex.specs.declared.token.Line.{Line}
 use Rattle.tempest_input.specs.declared.head.Head.{Head}
@@ -136,10 +137,12 @@ behind (l ∷ ls) = ls
 
 -- a section that begins at a line
 abbrev pub section_in : ℕ → ℕ → List Line → Result (Section × List Line) InputError
-section_in node all lines = body_in all (behind lines) >>= λ b. Ok (record { line = number_of_next lines; node = node; body = b.0 }, b.1)
+section_in node all lines = body_in all (behind lines) >>= λ b. Ok
+    (record { line = number_of_next lines; node = node; body = b.0 }, b.1)
 
 -- a section and those after it
-abbrev pub sections_as : Option ℕ → ℕ → List Line → (List Line → Result (List Section × List Line) InputError) → Result (List Section × List Line) InputError
+abbrev pub sections_as : Option ℕ → ℕ → List Line → (List Line → Result (List Section × List Line) InputError) →
+    Result (List Section × List Line) InputError
 sections_as None all lines later = Ok ([], lines)
 sections_as (Some node) all lines later = section_in node all lines >>= λ s. later s.1 >>= λ r. Ok (s.0 ∷ r.0, r.1)
 
@@ -157,7 +160,8 @@ sections_in all lines = sections_below (length lines) all lines
 -- `shipped` is a line of version 2 alone
 abbrev pub choice_as : ℕ → ℕ → Head → Line → List Line → Result (Choice × List Line) InputError
 choice_as version all heads.Protocol l ls = body_in all ls >>= λ b. Ok (choices.Own l.number b.0, b.1)
-choice_as version all (heads.Shipped which) l ls = if version == 2 then Ok (choices.Shipped l.number which, ls) else Ok (choices.Default, l ∷ ls)
+choice_as version all (heads.Shipped which) l ls = if version == 2 then Ok (choices.Shipped l.number which, ls)
+    else Ok (choices.Default, l ∷ ls)
 choice_as version all _ l ls = Ok (choices.Default, l ∷ ls)
 
 -- the next lines choose the protocol, where they are such lines
@@ -176,7 +180,8 @@ ends_so endings.Report (l ∷ ls) = is_report (head_of l.tokens)
 
 -- the lines of the report, of which a missing one would stand after the last of all
 unfoldable pub ending_in : Ending → ℕ → List Line → Result Body InputError
-ending_in ending all lines = if ends_so ending lines then Ok (record { lines = behind lines; end = all + 1 }) else Err (misfit all lines)
+ending_in ending all lines = if ends_so ending lines then Ok (record { lines = behind lines; end = all + 1 })
+    else Err (misfit all lines)
 
 -- ---- the whole
 

@@ -1,5 +1,6 @@
 -- The numbers of the header: their limits, and words and programs that are given twice.
-use Rattle.std.specs.Prelude.{ℕ, ◌+◌, ◌*◌, ◌==◌, ◌&&◌, not, nat_le, nat_lt, Bool, true, false, List, [], ◌∷◌, ◌++◌, Option, Some, None, Result, Ok, Err}
+use Rattle.std.specs.Prelude.{ℕ, ◌+◌, ◌*◌, ◌==◌, ◌&&◌, not, nat_le, nat_lt, Bool, true, false, List, [], ◌∷◌, ◌++◌, Option}
+use Rattle.std.specs.Prelude.{Some, None, Result, Ok, Err}
 use Rattle.std.specs.List.{list_any}
 use Rattle.tw_base.specs.Answers.{◌>>=◌}
 use Rattle.tw_base.specs.Shape.{Sizes}
@@ -36,8 +37,14 @@ sizes_of l =
     unless (is_within 1 8 l.nodes.value) l.nodes.line OutOfRange >>= λ nodes.
     unless (is_within 1 8 l.words.value) l.words.line OutOfRange >>= λ words.
     unless (is_within 1 64 l.blocks.value) l.blocks.line OutOfRange >>= λ blocks.
-    unless (is_budget l.nodes.value (budget_or l.blocks l.budget).value) (budget_or l.blocks l.budget).line OutOfRange >>= λ budget.
-    Ok (record { nodes = l.nodes.value; words = l.words.value; blocks = l.blocks.value; budget = (budget_or l.blocks l.budget).value })
+    unless (is_budget l.nodes.value (budget_or l.blocks l.budget).value) (budget_or l.blocks l.budget).line OutOfRange >>=
+    λ budget.
+    Ok (record {
+      nodes = l.nodes.value;
+      words = l.words.value;
+      blocks = l.blocks.value;
+      budget = (budget_or l.blocks l.budget).value;
+    })
 
 abbrev pub is_given : List (ℕ × ℕ) → ℕ → Bool
 is_given done address = list_any (λ given. given.0 == address) done

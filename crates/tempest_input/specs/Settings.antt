@@ -1,5 +1,6 @@
 -- What a text sets up.
-use Rattle.std.specs.Prelude.{◌≡◌, ◌⊎◌, ℕ, zero, suc, ◌*◌, ◌==◌, position, slice_get, unwrap_or, false, List, [], ◌∷◌, ◌++◌, length, Option, Some, None, Result, Ok, Err}
+use Rattle.std.specs.Prelude.{◌≡◌, ◌⊎◌, ℕ, zero, suc, ◌*◌, ◌==◌, position, slice_get, unwrap_or, false, List, [], ◌∷◌, ◌++◌}
+use Rattle.std.specs.Prelude.{length, Option, Some, None, Result, Ok, Err}
 use Rattle.tw_base.specs.Answers.{◌>>=◌}
 use Rattle.tw_base.specs.Lists.{Each}
 use Rattle.tw_base.specs.Shape.{Sizes}

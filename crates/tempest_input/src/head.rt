@@ -1,5 +1,6 @@
 ghost use Rattle.std.specs.Prelude.{◌≡◌};
-ghost use Rattle.tempest_input.specs.Heads.{head_of, word_head, number_head, shipped_as, words_head, init_head, one_head, two_head, three_head};
+ghost use Rattle.tempest_input.specs.Heads.{head_of, word_head, number_head, shipped_as, words_head, init_head, one_head};
+ghost use Rattle.tempest_input.specs.Heads.{two_head, three_head};
 
 use tw_lex::{Token, What};
 

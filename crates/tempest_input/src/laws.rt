@@ -1,6 +1,7 @@
 //! What a layout is and what a text is refused for, as laws about the definitions: each function's contract is one.
 
-ghost use Rattle.tempest_input.specs.Laws.{LayoutIsReadBothWays, MisfitIsFirst, MisfitIsOne, InputIsValidOrRefused, InputIsNeverBoth, RefusalIsOne, RefusalIsOfAKind, InputIsNoMemory};
+ghost use Rattle.tempest_input.specs.Laws.{LayoutIsReadBothWays, MisfitIsFirst, MisfitIsOne, InputIsValidOrRefused};
+ghost use Rattle.tempest_input.specs.Laws.{InputIsNeverBoth, RefusalIsOne, RefusalIsOfAKind, InputIsNoMemory};
 
 /// A layout is found exactly where the lines are written as one, in their order and with nothing else.
 pub fn layout_is_read_both_ways()

@@ -1,6 +1,9 @@
 ghost use Rattle.std.specs.Prelude.{◌≡◌, ◌+◌, ◌^◌, ◌<◌, [], ◌∷◌, ◌++◌, length, IfOk};
 ghost use Rattle.tw_base.specs.Answers.{Gives};
-ghost use Rattle.tempest_input.specs.Layout.{Steps, is_memory, misfit, peeked, is_end, is_field, number_in, field_in, budget_in, init_in, next_init, inits_in, body_in, next_node, behind, number_of_next, section_in, sections_in, choice_in, is_report, ends_so, ending_in, laid_out};
+ghost use Rattle.tempest_input.specs.Layout.{Steps, is_memory, misfit, peeked, is_end, is_field, number_in, field_in};
+ghost use Rattle.tempest_input.specs.Layout.{budget_in, init_in, next_init, inits_in, body_in, next_node, behind};
+ghost use Rattle.tempest_input.specs.Layout.{number_of_next, section_in, sections_in, choice_in, is_report, ends_so, ending_in};
+ghost use Rattle.tempest_input.specs.Layout.{laid_out};
 
 use crate::error::{InputError, Why};
 use crate::head::{Field, Head, Shipped, head_of};

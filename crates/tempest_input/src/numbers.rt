@@ -2,7 +2,8 @@ ghost use Rattle.std.specs.Prelude.{◌≡◌, ◌<◌, ◌≤◌, OnOk};
 ghost use Rattle.tw_base.specs.Answers.{Gives};
 ghost use Rattle.tw_base.specs.Shape.{Sizes, IsWithinLimits};
 ghost use Rattle.tempest_input.specs.Layout.{is_memory};
-ghost use Rattle.tempest_input.specs.Numbers.{unless, is_within, is_budget, budget_or, sizes_of, is_given, word_in, words_of, has_program, node_in, nodes_of};
+ghost use Rattle.tempest_input.specs.Numbers.{unless, is_within, is_budget, budget_or, sizes_of, is_given, word_in, words_of};
+ghost use Rattle.tempest_input.specs.Numbers.{has_program, node_in, nodes_of};
 
 use crate::error::{InputError, Why};
 use crate::layout::{Init, Layout, Numbered, Section};

@@ -3,7 +3,8 @@ ghost use Rattle.tw_base.specs.Answers.{Gives};
 ghost use Rattle.tw_lex.specs.Lines.{lexed};
 ghost use Rattle.mini_asm.specs.Assembled.{program_of};
 ghost use Rattle.tempest_input.specs.Layout.{is_memory};
-ghost use Rattle.tempest_input.specs.Settings.{in_line, in_program, layout_of, parsed, program_at, program_for, each_below, settings_and_report, settings_in, settings_of};
+ghost use Rattle.tempest_input.specs.Settings.{in_line, in_program, layout_of, parsed, program_at, program_for, each_below};
+ghost use Rattle.tempest_input.specs.Settings.{settings_and_report, settings_in, settings_of};
 
 use crate::error::{InputError, Why};
 use crate::layout::{Body, Choice, Ending, Layout, Section, laid_out};
@@ -31,7 +32,13 @@ impl Model for Settings {
 
     ghost view = { λ s. record { version = s.version; shape = s.shape; init = s.init; programs = s.programs; protocol = s.protocol } };
 
-    ghost invariant = { λ s. AreSettings (record { version = s.version; shape = s.shape; init = s.init; programs = s.programs; protocol = s.protocol }) };
+    ghost invariant = { λ s. AreSettings (record {
+      version = s.version;
+      shape = s.shape;
+      init = s.init;
+      programs = s.programs;
+      protocol = s.protocol;
+    }) };
 }
 
 impl Settings {

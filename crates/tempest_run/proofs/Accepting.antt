@@ -19,7 +19,8 @@ nothing_broken p a = go (first_of_rules p all_rules) refl
 fault-of : (f : Fault) (line : ℕ) (rule : Rule) → f.line ≡ line → f.rule ≡ rule → f ≡ fault line rule
 fault-of f line rule h k = ap (λ l. fault l f.rule) h ∙ ap (λ r. fault line r) k
 
-pub first_broken : (p : Protocol) (line : ℕ) (rule : Rule) → IsTree p → IsFirstBreak p line rule → first_of_rules p all_rules ≡ Some (fault line rule)
+pub first_broken : (p : Protocol) (line : ℕ) (rule : Rule) → IsTree p → IsFirstBreak p line rule →
+    first_of_rules p all_rules ≡ Some (fault line rule)
 first_broken p line rule t b = go (first_of_rules p all_rules) refl
   where
     go : (f : Option Fault) → first_of_rules p all_rules ≡ f → first_of_rules p all_rules ≡ Some (fault line rule)

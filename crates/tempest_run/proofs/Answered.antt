@@ -8,7 +8,8 @@ use Rattle.tempest_trials.specs.declared.trial.Trial.{Trial}
 use Rattle.tempest_trials.specs.declared.trial.Trial.TheVariants as trials
 use Rattle.tempest_trials.specs.Laws.{TrialsAreOne}
 use Rattle.tempest_words.specs.declared.request.Command.{Command}
-use Rattle.tempest_words.specs.declared.request.Command.TheVariants.{Audit, Check, Code as ForCode, Replay, Run, Sample, Show, Serial, Table}
+use Rattle.tempest_words.specs.declared.request.Command.TheVariants.{Audit, Check, Code as ForCode, Replay, Run, Sample, Show}
+use Rattle.tempest_words.specs.declared.request.Command.TheVariants.{Serial, Table}
 use Rattle.dsm_runs.specs.Schedules.{Settles}
 use Rattle.dsm_runs.specs.Setups.{Setup}
 use Rattle.dsm_runs.specs.Worlds.{World, start}
@@ -17,7 +18,8 @@ use Rattle.teapot_tree.specs.declared.protocol.Protocol.{Protocol}
 use Rattle.handler_code.specs.declared.code.Code.{Code}
 use Rattle.compiled_meaning.specs.Whole.{IsCode}
 use Rattle.tempest_run.specs.declared.answer.Answer.{Answer}
-use Rattle.tempest_run.specs.Answering.{Answers, AnswersAlone, AnswersIn, IsAnswerIf, IsAnswered, TellsOfAudit, TellsOfCode, TellsOfReplay, TellsOfRun, check_answer, code_answer}
+use Rattle.tempest_run.specs.Answering.{Answers, AnswersAlone, AnswersIn, IsAnswerIf, IsAnswered, TellsOfAudit, TellsOfCode}
+use Rattle.tempest_run.specs.Answering.{TellsOfReplay, TellsOfRun, check_answer, code_answer}
 use Rattle.tempest_run.specs.Answering.{ending_of, has_halted, reads_input, refusal, report_answer, sample_answer, show_answer}
 use Rattle.tempest_run.specs.Answering.{status_of, table_answer, trial_answer}
 use Rattle.tempest_run.specs.Laws.{AnswerIsOne, has_many_answers}
@@ -33,7 +35,8 @@ use Rattle.tempest_run.specs.Inputs.{input_of}
 
 -- two runs of one schedule are one run
 abbrev pub RunsAreOne : Type 0
-RunsAreOne = (s : Setup) (stride t : ℕ) (g : World) (es fs : List Entry) (h k : World) → Settles s stride t g es h → Settles s stride t g fs k → (es ≡ fs) × (h ≡ k)
+RunsAreOne = (s : Setup) (stride t : ℕ) (g : World) (es fs : List Entry) (h k : World) → Settles s stride t g es h →
+    Settles s stride t g fs k → (es ≡ fs) × (h ≡ k)
 
 -- a protocol has one code
 abbrev pub CodesAreOne : Type 0
@@ -76,9 +79,11 @@ one_text one p a b x y = x.tells ∙ ap (λ code. code_answer p code) (one p x.c
 
 -- a report is audited once, and so many of its events are made anew once
 one_audit : TrialsAreOne → (s : Setup) (report : Body) (a b : Answer) → TellsOfAudit s report a → TellsOfAudit s report b → a ≡ b
-one_audit one s report a b x y = x.tells ∙ ap trial_answer (one.audit s report.end report.lines x.trial y.trial x.audit y.audit) ∙ sym y.tells
+one_audit one s report a b x y = x.tells
+    ∙ ap trial_answer (one.audit s report.end report.lines x.trial y.trial x.audit y.audit) ∙ sym y.tells
 
-one_replay : TrialsAreOne → (count : ℕ) (s : Setup) (report : Body) (a b : Answer) → TellsOfReplay count s report a → TellsOfReplay count s report b → a ≡ b
+one_replay : TrialsAreOne → (count : ℕ) (s : Setup) (report : Body) (a b : Answer) → TellsOfReplay count s report a →
+    TellsOfReplay count s report b → a ≡ b
 one_replay one count s report a b x y =
     x.tells ∙ ap trial_answer (one.replay count s report.end report.lines x.trial y.trial x.replay y.replay) ∙ sym y.tells
 
@@ -109,7 +114,8 @@ one_in laws command o (Ok i) a b plain x y = one_about laws command o i.0 i.1 a 
 one_in laws command o (Err (Refused number reason)) a b plain x y = x ∙ sym y
 one_in laws command o (Err Memory) a b plain x y = absurd x
 
-one_alone : (command : Command) (a b : Answer) → has_many_answers command ≡ false → AnswersAlone command a → AnswersAlone command b → a ≡ b
+one_alone : (command : Command) (a b : Answer) → has_many_answers command ≡ false → AnswersAlone command a →
+    AnswersAlone command b → a ≡ b
 one_alone Table a b plain x y = x ∙ sym y
 one_alone (Sample k) a b plain x y = x.one ∙ sym y.one
 one_alone Run a b plain x y = absurd x
@@ -132,13 +138,15 @@ one_answer laws asked text a b plain x y = one_if laws (reads_input asked.comman
 -- ---- the statuses of answers
 
 report-status : (fs : List Final) → IsAnswered (status_of fs)
-report-status fs = elim (list_all (λ f. has_halted f.outcome) fs) as (λ b. IsAnswered (if b then Done else Unfinished)) [ true ↦ tt | false ↦ tt ]
+report-status fs = elim (list_all (λ f. has_halted f.outcome) fs) as (λ b. IsAnswered (if b then Done else Unfinished))
+    [ true ↦ tt | false ↦ tt ]
 
 status-along : (a b : Answer) → a ≡ b → IsAnswered b.status → IsAnswered a.status
 status-along a b e is = subst (λ (x : Answer). IsAnswered x.status) (sym e) is
 
 told-status :
-    (s : Setup) (j : List Entry) (g : World) (ops records : ℕ → ℕ) (o : Options) (a : Answer) → a ≡ report_answer s j g ops records o →
+    (s : Setup) (j : List Entry) (g : World) (ops records : ℕ → ℕ) (o : Options) (a : Answer) →
+    a ≡ report_answer s j g ops records o →
     IsAnswered a.status
 told-status s j g ops records o a e =
     status-along a (report_answer s j g ops records o) e (report-status (counted_finals s g ops records))
@@ -147,7 +155,8 @@ trial-status : (t : Trial) → IsAnswered (trial_answer t).status
 trial-status (trials.Stands text) = tt
 trial-status (trials.Denied text) = tt
 
-about-status : (command : Command) (o : Options) (s : Setup) (report : Body) (a : Answer) → Answers command o s report a → IsAnswered a.status
+about-status : (command : Command) (o : Options) (s : Setup) (report : Body) (a : Answer) → Answers command o s report a →
+    IsAnswered a.status
 about-status Run o s report a x = told-status s x.journal x.state (λ i. (x.counts i).ops) (λ i. (x.counts i).records) o a x.tells
 about-status (Serial stride) o s report a x =
     told-status s x.journal x.state (λ i. (x.counts i).ops) (λ i. (x.counts i).records) o a x.tells
@@ -159,7 +168,8 @@ about-status (Sample k) o s report a x = absurd x
 about-status Audit o s report a x = status-along a (trial_answer x.trial) x.tells (trial-status x.trial)
 about-status (Replay count) o s report a x = status-along a (trial_answer x.trial) x.tells (trial-status x.trial)
 
-in-status : (command : Command) (o : Options) (r : Result (Setup × Body) InputError) (a : Answer) → AnswersIn command o r a → IsAnswered a.status
+in-status : (command : Command) (o : Options) (r : Result (Setup × Body) InputError) (a : Answer) → AnswersIn command o r a →
+    IsAnswered a.status
 in-status command o (Ok i) a x = about-status command o i.0 i.1 a x
 in-status command o (Err (Refused number reason)) a x = status-along a (refusal number reason) x tt
 in-status command o (Err Memory) a x = absurd x
@@ -175,7 +185,8 @@ alone-status Show a x = absurd x
 alone-status Audit a x = absurd x
 alone-status (Replay count) a x = absurd x
 
-if-status : (reads : Bool) (command : Command) (o : Options) (text : List ℕ) (a : Answer) → IsAnswerIf reads command o text a → IsAnswered a.status
+if-status : (reads : Bool) (command : Command) (o : Options) (text : List ℕ) (a : Answer) → IsAnswerIf reads command o text a →
+    IsAnswered a.status
 if-status true command o text a x = in-status command o (input_of (ending_of command) text) a x
 if-status false command o text a x = alone-status command a x
 

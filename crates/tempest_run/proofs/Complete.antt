@@ -10,7 +10,8 @@ use Rattle.tempest_words.specs.declared.request.Asked.{Asked}
 use Rattle.tempest_run.specs.declared.answer.Answer.{Answer}
 use Rattle.tempest_run.specs.declared.status.Status.{Status}
 use Rattle.tempest_run.specs.declared.status.Status.TheVariants as statuses
-use Rattle.tempest_run.specs.Answering.{Answers, AnswersAlone, AnswersIn, IsAnswer, IsAnswerIf, ending_of, options_of, reads_input}
+use Rattle.tempest_run.specs.Answering.{Answers, AnswersAlone, AnswersIn, IsAnswer, IsAnswerIf, ending_of, options_of}
+use Rattle.tempest_run.specs.Answering.{reads_input}
 use Rattle.tempest_run.specs.CallLaws.{HasItsStatus, OthersAreAnswered, ValidTextsAreAnswered}
 use Rattle.tempest_run.specs.Calls.{Ends, IsDue, answered, bad_length, bad_words, no_memory, read_fault, write_fault, wrote}
 use Rattle.tempest_run.specs.Inputs.{input_of}
@@ -20,7 +21,8 @@ use Rattle.tempest_run.proofs.HowEnded.{alone_is_done, has_its_status}
 -- ---- a text
 
 about :
-    (q : Asked) (text : List ℕ) (s : Setup) (report : Body) (a : Answer) → reads_input q.command ≡ true → input_of (ending_of q.command) text ≡ Ok (s, report) →
+    (q : Asked) (text : List ℕ) (s : Setup) (report : Body) (a : Answer) → reads_input q.command ≡ true →
+    input_of (ending_of q.command) text ≡ Ok (s, report) →
     IsAnswer q text a → Answers q.command (options_of q) s report a
 about q text s report a reads valid is =
     let read : AnswersIn q.command (options_of q) (input_of (ending_of q.command) text) a = subst

@@ -1,5 +1,6 @@
 -- What the status of a report says of how the nodes of its run ended.
-use Rattle.std.proofs.Common.{◌≡◌, ◌≢◌, ◌⊎◌, ℕ, zero, suc, ◌+◌, ◌<◌, ◌≤◌, Bool, true, false, ◌&&◌, if◌then◌else◌, List, [], ◌∷◌, map, arith, refl, sym, ap, subst, inl, inr, ◌∙◌}
+use Rattle.std.proofs.Common.{◌≡◌, ◌≢◌, ◌⊎◌, ℕ, zero, suc, ◌+◌, ◌<◌, ◌≤◌, Bool, true, false, ◌&&◌, if◌then◌else◌, List, [], ◌∷◌}
+use Rattle.std.proofs.Common.{map, arith, refl, sym, ap, subst, inl, inr, ◌∙◌}
 use Rattle.std.proofs.lemmas.Bool.{cases_eq}
 use Rattle.std.specs.List.{list_all, range_with_len}
 use Rattle.dsm_runs.specs.declared.outcome.Outcome.{Outcome}
@@ -18,7 +19,8 @@ use Rattle.tempest_input.specs.declared.layout.Body.{Body}
 use Rattle.tempest_trials.specs.declared.trial.Trial.{Trial}
 use Rattle.tempest_trials.specs.declared.trial.Trial.TheVariants as trials
 use Rattle.tempest_words.specs.declared.request.Command.{Command}
-use Rattle.tempest_words.specs.declared.request.Command.TheVariants.{Audit, Check, Code as ForCode, Replay, Run, Sample, Show, Serial, Table}
+use Rattle.tempest_words.specs.declared.request.Command.TheVariants.{Audit, Check, Code as ForCode, Replay, Run, Sample, Show}
+use Rattle.tempest_words.specs.declared.request.Command.TheVariants.{Serial, Table}
 use Rattle.tempest_run.specs.declared.answer.Answer.{Answer}
 use Rattle.tempest_run.specs.declared.status.Status.{Status}
 use Rattle.tempest_run.specs.declared.status.Status.TheVariants.{Denied, Done, Unfinished}
@@ -160,7 +162,8 @@ tried (trials.Stands text) a e = inl (ap (λ (y : Answer). y.status) e)
 tried (trials.Denied text) a e = inr (ap (λ (y : Answer). y.status) e)
 
 pub has_its_status :
-    (command : Command) (o : Options) (s : Setup) (report : Body) (a : Answer) → Answers command o s report a → HasItsStatus command o s a
+    (command : Command) (o : Options) (s : Setup) (report : Body) (a : Answer) → Answers command o s report a →
+    HasItsStatus command o s a
 has_its_status Run o s report a x = threads_report s o a x
 has_its_status (Serial stride) o s report a x = serial_report s stride o a x
 has_its_status Check o s report a x = ap (λ (y : Answer). y.status) x

@@ -32,9 +32,15 @@ use Rattle.tempest_run.proofs.Uncounted.{summary_unseen}
 pub told_is_run : (s : Setup) (j k : List Entry) (r : GatheredShown) → k ≡ j → IsToldRun s j r → IsRun s k
 told_is_run s j k r same told = subst (λ (es : List Entry). IsRun s es) (sym same) (told.state, told.run)
 
-quiet_run : (s : Setup) (j : List Entry) (r : GatheredShown) → HistoryIsTold → IsSetup s → (told : IsToldRun s j r) → IsQuietRun s j told.state
+quiet_run : (s : Setup) (j : List Entry) (r : GatheredShown) → HistoryIsTold → IsSetup s → (told : IsToldRun s j r) →
+    IsQuietRun s j told.state
 quiet_run s j r history valid told =
-    record { run = told.run; quiet = told.tells.quiet; stamps = stamps_are_sound s j told.state valid told.run; history = history s j told.state valid told.run }
+    record {
+      run = told.run;
+      quiet = told.tells.quiet;
+      stamps = stamps_are_sound s j told.state valid told.run;
+      history = history s j told.state valid told.run;
+    }
 
 -- ---- a report
 
@@ -51,7 +57,8 @@ tells_of_threads s o a j k r finals words history valid sorted told hj hf hw tel
   one_memory = λ is. one_memory s j told.state valid is told.run told.tells.quiet;
   sound = λ is. shipped_are_sound_to_their_end s j told.state valid is told.run told.tells.quiet;
   counted = λ asked. told.counted;
-  tells = tale s o j k told.state (λ i. (told.counts i).ops) (λ i. (told.counts i).records) finals words a hj (hf ∙ told.tells.finals)
+  tells = tale s o j k told.state (λ i. (told.counts i).ops) (λ i. (told.counts i).records) finals words a hj
+      (hf ∙ told.tells.finals)
       (hw ∙ told.tells.words) tells;
 }
 
@@ -61,8 +68,10 @@ abbrev done : List ℕ → Answer
 done text = record { status = Done; text = text }
 
 summarized :
-    (k : ℕ) (j i : List Entry) (r : GatheredShown) (finals : List Final) (words : List ℕ) (broken : Option Break) (text : List ℕ) →
-    (told : IsToldRun (sample_setup k) j r) → i ≡ j → finals ≡ r.finals → words ≡ r.words → broken ≡ first_break (sample_setup k) j →
+    (k : ℕ) (j i : List Entry) (r : GatheredShown) (finals : List Final) (words : List ℕ) (broken : Option Break)
+    (text : List ℕ) →
+    (told : IsToldRun (sample_setup k) j r) → i ≡ j → finals ≡ r.finals → words ≡ r.words →
+    broken ≡ first_break (sample_setup k) j →
     text ≡ summary_under (sample_setup k).protocol k i finals words broken → done text ≡ sample_answer k j told.state
 summarized k j i r finals words broken text told hj hf hw hb ht =
     let s : Setup = sample_setup k in
@@ -79,7 +88,8 @@ summarized k j i r finals words broken text told hj hf hw hb ht =
 pub tells_of_sample :
     (k : ℕ) (s : Setup) (j i : List Entry) (r : GatheredShown) (finals : List Final) (words : List ℕ) (broken : Option Break)
     (text : List ℕ) →
-    HistoryIsTold → SampleHasOneSummary → s ≡ sample_setup k → IsSetup s → IsStache s.protocol → IsSorted j → IsToldRun s j r → i ≡ j → finals ≡ r.finals →
+    HistoryIsTold → SampleHasOneSummary → s ≡ sample_setup k → IsSetup s → IsStache s.protocol → IsSorted j → IsToldRun s j r →
+    i ≡ j → finals ≡ r.finals →
     words ≡ r.words → broken ≡ first_break s j → text ≡ summary_under s.protocol k i finals words broken →
     TellsOfSample k (record { status = Done; text = text })
 tells_of_sample k s j i r finals words broken text history one e valid is sorted told hj hf hw hb ht =

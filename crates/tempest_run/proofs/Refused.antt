@@ -30,8 +30,10 @@ use Rattle.tempest_input.specs.declared.layout.Choice.TheVariants as choices
 use Rattle.tempest_input.specs.declared.layout.Ending.{Ending}
 use Rattle.tempest_input.specs.Laws.{InputIsNoMemory, LayoutIsReadBothWays, RefusalIsOfAKind as EarlyIsOfAKind}
 use Rattle.tempest_input.specs.Settings.{Settings, settings_and_report}
-use Rattle.tempest_run.specs.Inputs.{IsOfText, accepted, broken_rule, in_protocol, input_of, or_memory, protocol_of, section_protocol, shipped_protocol, under, unless_broken, unread}
-use Rattle.tempest_run.specs.Refusals.{HasSection, IsRefused, RefusalIsOfAKind, RefusalIsOne, TextIsNeverBoth, TextIsNoMemory, TextIsValidOrRefused, breaks, early, no_tree}
+use Rattle.tempest_run.specs.Inputs.{IsOfText, accepted, broken_rule, in_protocol, input_of, or_memory, protocol_of}
+use Rattle.tempest_run.specs.Inputs.{section_protocol, shipped_protocol, under, unless_broken, unread}
+use Rattle.tempest_run.specs.Refusals.{HasSection, IsRefused, RefusalIsOfAKind, RefusalIsOne, TextIsNeverBoth, TextIsNoMemory}
+use Rattle.tempest_run.specs.Refusals.{TextIsValidOrRefused, breaks, early, no_tree}
 use Rattle.tempest_run.proofs.Accepting.{first_broken}
 use Rattle.tempest_run.proofs.Sections.{settings-of-text}
 
@@ -41,7 +43,8 @@ pub record Laws : Type 0 where
   pub no_memory : InputIsNoMemory
   pub layout : LayoutIsReadBothWays
   pub text_lines : LexedAreTextLines
-  pub given : (lines : List Line) (p : Protocol) (after : ℕ) → AreTextLines lines → parsed lines after ≡ Ok p → IsTree p × IsGiven lines p
+  pub given : (lines : List Line) (p : Protocol) (after : ℕ) → AreTextLines lines → parsed lines after ≡ Ok p →
+      IsTree p × IsGiven lines p
   pub read : (lines : List Line) (p : Protocol) (after : ℕ) → IsTree p → IsGiven lines p → parsed lines after ≡ Ok p
   pub refuses : (lines : List Line) (after : ℕ) (e : ParseError) → parsed lines after ≡ Err e → Refuses lines after e
   pub refused : (lines : List Line) (after : ℕ) (e : ParseError) → Refuses lines after e → parsed lines after ≡ Err e
@@ -72,7 +75,8 @@ shipped-is laws StacheL e h = let there = ap or_memory laws.stache_l.1 in absurd
 
 -- ---- a refusal that is found is of a kind
 
-broken-is : (p : Protocol) (f : Option Fault) (line : ℕ) (why : Why) → first_of_rules p all_rules ≡ f → unless_broken f p ≡ Err (Refused line why)
+broken-is : (p : Protocol) (f : Option Fault) (line : ℕ) (why : Why) → first_of_rules p all_rules ≡ f →
+    unless_broken f p ≡ Err (Refused line why)
     → (rule : Rule) × IsFirstBreak p line rule × (why ≡ broken_rule rule)
 broken-is p None line why is h = absurd (cc h)
 broken-is p (Some f) line why is h =
@@ -80,16 +84,19 @@ broken-is p (Some f) line why is h =
     let for : broken_rule f.rule ≡ why = cc h in
     (f.rule, subst (λ n. IsFirstBreak p n f.rule) at (is_first p f is), sym for)
 
-accepted-is : (p : Protocol) (line : ℕ) (why : Why) → accepted p ≡ Err (Refused line why) → (rule : Rule) × IsFirstBreak p line rule × (why ≡ broken_rule rule)
+accepted-is : (p : Protocol) (line : ℕ) (why : Why) → accepted p ≡ Err (Refused line why) →
+    (rule : Rule) × IsFirstBreak p line rule × (why ≡ broken_rule rule)
 unfolding accepted
 accepted-is p line why h = broken-is p (first_of_rules p all_rules) line why refl h
 
-section-back : Laws → (ending : Ending) (text : List ℕ) (body : Body) (line : ℕ) (why : Why) → HasSection ending text body → AreTextLines body.lines → section_protocol body ≡ Err (Refused line why)
+section-back : Laws → (ending : Ending) (text : List ℕ) (body : Body) (line : ℕ) (why : Why) → HasSection ending text body →
+    AreTextLines body.lines → section_protocol body ≡ Err (Refused line why)
     → IsRefused ending text line why
 unfolding section_protocol
 section-back laws ending text body line why has lines h = go (parsed body.lines body.end) refl h
   where
-    go : (r : Result Protocol ParseError) → parsed body.lines body.end ≡ r → (in_protocol r >>= λ p. accepted p) ≡ Err (Refused line why) → IsRefused ending text line why
+    go : (r : Result Protocol ParseError) → parsed body.lines body.end ≡ r →
+        (in_protocol r >>= λ p. accepted p) ≡ Err (Refused line why) → IsRefused ending text line why
     go (Ok p) is f =
         let tree = laws.given body.lines p body.end lines is in
         let first = accepted-is p line why f in
@@ -98,20 +105,25 @@ section-back laws ending text body line why has lines h = go (parsed body.lines 
         let for : unread e ≡ Refused line why = cc f in
         no_tree body e has (laws.refuses body.lines body.end e is) for
 
-choice-back : Laws → (ending : Ending) (text : List ℕ) (s : Settings × Body) (choice : Choice) (line : ℕ) (why : Why) → settings_and_report ending text ≡ Ok s → s.0.protocol ≡ choice → IsOfText choice
+choice-back : Laws → (ending : Ending) (text : List ℕ) (s : Settings × Body) (choice : Choice) (line : ℕ) (why : Why) →
+    settings_and_report ending text ≡ Ok s → s.0.protocol ≡ choice → IsOfText choice
     → protocol_of choice ≡ Err (Refused line why) → IsRefused ending text line why
 unfolding protocol_of
 choice-back laws ending text s choices.Default line why is own lines h = absurd (shipped-is laws Stache (Refused line why) h)
 choice-back laws ending text s (choices.Own l body) line why is own lines h =
     section-back laws ending text body line why (record { settings = s.0; report = s.1; line = l; set = is; own = own }) lines h
-choice-back laws ending text s (choices.Shipped l which) line why is own lines h = absurd (shipped-is laws which (Refused line why) h)
+choice-back laws ending text s (choices.Shipped l which) line why is own lines h =
+    absurd (shipped-is laws which (Refused line why) h)
 
-kind-back : Laws → (ending : Ending) (text : List ℕ) (line : ℕ) (why : Why) → input_of ending text ≡ Err (Refused line why) → IsRefused ending text line why
+kind-back : Laws → (ending : Ending) (text : List ℕ) (line : ℕ) (why : Why) → input_of ending text ≡ Err (Refused line why) →
+    IsRefused ending text line why
 kind-back laws ending text line why h = go (settings_and_report ending text) refl (sym (input-is ending text) ∙ h)
   where
-    go : (r : Result (Settings × Body) InputError) → settings_and_report ending text ≡ r → set_up r ≡ Err (Refused line why) → IsRefused ending text line why
+    go : (r : Result (Settings × Body) InputError) → settings_and_report ending text ≡ r → set_up r ≡ Err (Refused line why) →
+        IsRefused ending text line why
     go (Ok s) is f =
-        choice-back laws ending text s s.0.protocol line why is refl (settings-of-text laws.text_lines laws.layout ending text s is)
+        choice-back laws ending text s s.0.protocol line why is refl
+        (settings-of-text laws.text_lines laws.layout ending text s is)
         (joined-err s (protocol_of s.0.protocol) (Refused line why) f)
     go (Err e) is f =
         let same : e ≡ Refused line why = cc f in
@@ -119,30 +131,37 @@ kind-back laws ending text line why h = go (settings_and_report ending text) ref
 
 -- ---- a refusal of a kind is found
 
-set-on : (ending : Ending) (text : List ℕ) (s : Settings × Body) (r : Result Protocol InputError) → settings_and_report ending text ≡ Ok s → protocol_of s.0.protocol ≡ r → input_of ending text ≡ joined s r
+set-on : (ending : Ending) (text : List ℕ) (s : Settings × Body) (r : Result Protocol InputError) →
+    settings_and_report ending text ≡ Ok s → protocol_of s.0.protocol ≡ r → input_of ending text ≡ joined s r
 set-on ending text s r is own = input-is ending text ∙ ap set_up is ∙ ap (joined s) own
 
-section-on : (ending : Ending) (text : List ℕ) (body : Body) (r : Result Protocol InputError) (e : InputError) → HasSection ending text body → section_protocol body ≡ r → r ≡ Err e → input_of ending text ≡ Err e
+section-on : (ending : Ending) (text : List ℕ) (body : Body) (r : Result Protocol InputError) (e : InputError) →
+    HasSection ending text body → section_protocol body ≡ r → r ≡ Err e → input_of ending text ≡ Err e
 unfolding protocol_of
 section-on ending text body r e has is h =
-    set-on ending text (has.settings, has.report) (section_protocol body) has.set (ap protocol_of has.own) ∙ ap (joined (has.settings, has.report)) (is ∙ h)
+    set-on ending text (has.settings, has.report) (section_protocol body) has.set (ap protocol_of has.own)
+    ∙ ap (joined (has.settings, has.report)) (is ∙ h)
 
 tree-on : Laws → (body : Body) (e : ParseError) → Refuses body.lines body.end e → section_protocol body ≡ Err (unread e)
 unfolding section_protocol
 tree-on laws body e refuses = ap (λ r. in_protocol r >>= λ p. accepted p) (laws.refused body.lines body.end e refuses)
 
-break-on : Laws → (body : Body) (p : Protocol) (line : ℕ) (rule : Rule) → IsTree p → IsGiven body.lines p → IsFirstBreak p line rule
+break-on : Laws → (body : Body) (p : Protocol) (line : ℕ) (rule : Rule) → IsTree p → IsGiven body.lines p →
+    IsFirstBreak p line rule
     → section_protocol body ≡ Err (Refused line (broken_rule rule))
 unfolding section_protocol accepted
 break-on laws body p line rule tree given first =
     ap (λ r. in_protocol r >>= λ p. accepted p) (laws.read body.lines p body.end tree given)
     ∙ ap (λ f. unless_broken f p) (first_broken p line rule tree first)
 
-kind-on : Laws → (ending : Ending) (text : List ℕ) (line : ℕ) (why : Why) → IsRefused ending text line why → input_of ending text ≡ Err (Refused line why)
+kind-on : Laws → (ending : Ending) (text : List ℕ) (line : ℕ) (why : Why) → IsRefused ending text line why →
+    input_of ending text ≡ Err (Refused line why)
 kind-on laws ending text line why (early h) = input-is ending text ∙ ap set_up ((laws.early ending text line why).1 h)
-kind-on laws ending text line why (no_tree body e has refuses for) = section-on ending text body (Err (unread e)) (Refused line why) has (tree-on laws body e refuses) (ap Err for)
+kind-on laws ending text line why (no_tree body e has refuses for) =
+    section-on ending text body (Err (unread e)) (Refused line why) has (tree-on laws body e refuses) (ap Err for)
 kind-on laws ending text line why (breaks body p rule has tree given first for) =
-    section-on ending text body (Err (Refused line (broken_rule rule))) (Refused line why) has (break-on laws body p line rule tree given first) (ap (λ w. Err (Refused line w)) (sym for))
+    section-on ending text body (Err (Refused line (broken_rule rule))) (Refused line why) has
+    (break-on laws body p line rule tree given first) (ap (λ w. Err (Refused line w)) (sym for))
 
 pub kinds : Laws → RefusalIsOfAKind
 kinds laws ending text line why = (kind-back laws ending text line why, kind-on laws ending text line why)
@@ -165,7 +184,8 @@ section-memory laws body h = go (parsed body.lines body.end) refl h
   where
     go : (r : Result Protocol ParseError) → parsed body.lines body.end ≡ r → (in_protocol r >>= λ p. accepted p) ≡ Err Memory → ⊥
     go (Ok p) is f = broken-memory p (first_of_rules p all_rules) f
-    go (Err e) is f = let for : unread e ≡ Memory = cc f in unread-memory body.lines body.end e (laws.refuses body.lines body.end e is) for
+    go (Err e) is f = let for : unread e ≡ Memory = cc f in unread-memory body.lines body.end e
+        (laws.refuses body.lines body.end e is) for
 
 choice-memory : Laws → (choice : Choice) → protocol_of choice ≡ Err Memory → ⊥
 unfolding protocol_of
@@ -186,13 +206,15 @@ pub valid_or_refused : Laws → TextIsValidOrRefused
 valid_or_refused laws ending text = go (input_of ending text) refl
   where
     go : (r : Result (Setup × Body) InputError) → input_of ending text ≡ r
-        → ((s : Setup) × (report : Body) × (input_of ending text ≡ Ok (s, report))) ⊎ ((line : ℕ) × (why : Why) × IsRefused ending text line why)
+        → ((s : Setup) × (report : Body) × (input_of ending text ≡ Ok (s, report)))
+        ⊎ ((line : ℕ) × (why : Why) × IsRefused ending text line why)
     go (Ok s) is = inl (s.0, s.1, is)
     go (Err (Refused line why)) is = inr (line, why, kind-back laws ending text line why is)
     go (Err Memory) is = absurd (no-memory laws ending text is)
 
 pub never_both : Laws → TextIsNeverBoth
-never_both laws ending text s report line why is refused = let other = kind-on laws ending text line why refused in absurd (cc (is, other))
+never_both laws ending text s report line why is refused = let other =
+    kind-on laws ending text line why refused in absurd (cc (is, other))
 
 pub one_refusal : Laws → RefusalIsOne
 one_refusal laws ending text line other why reason a b =

@@ -62,7 +62,15 @@ tells_of_run s stride o a j g counts runs ends told valid settles counted tells 
       journal = j;
       state = g;
       counts = counts;
-      run = record { schedule = settles; quiet_run = record { run = run; quiet = quiet; stamps = stamps_are_sound s j g valid run; history = told s j g valid run } };
+      run = record {
+        schedule = settles;
+        quiet_run = record {
+          run = run;
+          quiet = quiet;
+          stamps = stamps_are_sound s j g valid run;
+          history = told s j g valid run;
+        };
+      };
       one_memory = λ is. one_memory s j g valid is run quiet;
       sound = λ is. shipped_are_sound_to_their_end s j g valid is run quiet;
       counted = counted;

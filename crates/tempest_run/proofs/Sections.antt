@@ -29,18 +29,22 @@ each-front : {X : Type 0} (P : X → Type 0) (front rest : List X) → Each P (f
 each-front P [] rest h = tt
 each-front P (x ∷ front) rest h = (h.0, each-front P front rest h.1)
 
-own-of-text : (version : ℕ) (choice : Choice) (lines : List Line) → IsChoice version choice lines → AreTextLines lines → IsOfText choice
+own-of-text : (version : ℕ) (choice : Choice) (lines : List Line) → IsChoice version choice lines → AreTextLines lines →
+    IsOfText choice
 own-of-text version choices.Default lines h all = tt
 own-of-text version (choices.Own line body) lines h all =
     let inner = subst AreTextLines h.lines_are all in
     each-front _ body.lines (h.closing ∷ []) inner.1
 own-of-text version (choices.Shipped line which) lines h all = tt
 
-section-of-text : (ending : Ending) (all : ℕ) (lines : List Line) (l : Layout) (report : Body) → AreTextLines lines → IsLaidOut ending all lines l report → IsOfText l.protocol
+section-of-text : (ending : Ending) (all : ℕ) (lines : List Line) (l : Layout) (report : Body) → AreTextLines lines →
+    IsLaidOut ending all lines l report → IsOfText l.protocol
 section-of-text ending all lines l report are h =
     let whole = subst AreTextLines h.lines_are are in
     let rest = h.protocol ++ h.behind in
-    let behind = each-behind _ h.programs rest (each-behind _ h.inits (h.programs ++ rest) (each-behind _ h.budget (h.inits ++ (h.programs ++ rest)) whole.1.1.1.1)) in
+    let behind =
+    each-behind _ h.programs rest (each-behind _ h.inits (h.programs ++ rest)
+    (each-behind _ h.budget (h.inits ++ (h.programs ++ rest)) whole.1.1.1.1)) in
     own-of-text l.version.value l.protocol h.protocol h.protocol_is (each-front _ h.protocol h.behind behind)
 
 -- ---- what is found in a text
@@ -73,7 +77,8 @@ settings-protocol l s e =
     sym (ap (protocol_or l.protocol) programs.2)
 
 -- the section of a text's settings
-pub settings-of-text : LexedAreTextLines → LayoutIsReadBothWays → (ending : Ending) (text : List ℕ) (i : Settings × Body) → settings_and_report ending text ≡ Ok i → IsOfText i.0.protocol
+pub settings-of-text : LexedAreTextLines → LayoutIsReadBothWays → (ending : Ending) (text : List ℕ) (i : Settings × Body) →
+    settings_and_report ending text ≡ Ok i → IsOfText i.0.protocol
 unfolding layout_of
 settings-of-text lines layout ending text i e =
     let laid = bind-ok (layout_of ending text) (λ l. settings_of l.0 >>= λ s. Ok (s, l.1)) i e in
@@ -81,7 +86,8 @@ settings-of-text lines layout ending text i e =
     let set = bind-ok (settings_of l.0) (λ s. Ok (s, l.1)) i laid.2 in
     let lexes = bind-ok (in_line (lexed text)) (λ found. laid_out ending found.all found.list) l laid.1 in
     let found : Lexed = lexes.0 in
-    let own = section-of-text ending found.all found.list l.0 l.1 (lines text found (in_line-ok (lexed text) found lexes.1)) ((layout ending found.all found.list l.0 l.1).0 lexes.2) in
+    let own = section-of-text ending found.all found.list l.0 l.1 (lines text found (in_line-ok (lexed text) found lexes.1))
+    ((layout ending found.all found.list l.0 l.1).0 lexes.2) in
     let here : IsOfText set.0.protocol = subst IsOfText (sym (settings-protocol l.0 set.0 set.1)) own in
     subst (λ (x : Settings × Body). IsOfText x.0.protocol) (in_pair (set.0, l.1) i set.2) here
   where

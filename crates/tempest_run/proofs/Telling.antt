@@ -24,7 +24,8 @@ use Rattle.tempest_run.specs.declared.status.Status.{Status}
 use Rattle.tempest_run.specs.declared.status.Status.TheVariants.{Done}
 
 -- a run of at most eight nodes within the limits has few events
-few : (n budget count : ℕ) → n ≤ 8 → (4 * n + 4) * n * budget ≤ 1250000 → count ≤ n * (budget + (4 * n + 4) * n * budget) → count < 2 ^ 32
+few : (n budget count : ℕ) → n ≤ 8 → (4 * n + 4) * n * budget ≤ 1250000 → count ≤ n * (budget + (4 * n + 4) * n * budget) →
+    count < 2 ^ 32
 few zero budget count eight limit at_most = omega (arith, at_most)
 few (suc zero) budget count eight limit at_most = omega (arith, limit, at_most)
 few (suc (suc zero)) budget count eight limit at_most = omega (arith, limit, at_most)
@@ -36,12 +37,15 @@ few (suc (suc (suc (suc (suc (suc (suc zero))))))) budget count eight limit at_m
 few (suc (suc (suc (suc (suc (suc (suc (suc zero)))))))) budget count eight limit at_most = omega (arith, limit, at_most)
 few (suc (suc (suc (suc (suc (suc (suc (suc (suc n))))))))) budget count eight limit at_most = absurd (omega (arith, eight))
 
-pub short : (s : Sizes) (j : List Entry) → IsWithinLimits s → length j ≤ s.nodes * (s.budget + handler_budget_of s) → length j < 2 ^ 32
+pub short : (s : Sizes) (j : List Entry) → IsWithinLimits s → length j ≤ s.nodes * (s.budget + handler_budget_of s) →
+    length j < 2 ^ 32
 short s j limits at_most = few s.nodes s.budget (length j) limits.nodes limits.budget at_most
 
 -- a schedule from a state that is the start
-pub from_start : (s t : Setup) (stride : ℕ) (g : World) (j : List Entry) (h : World) → t ≡ s → g ≡ start s → Settles t stride 0 g j h → Settles s stride 0 (start s) j h
-from_start s t stride g j h e f settles = subst (λ u. Settles u stride 0 (start s) j h) e (subst (λ w. Settles t stride 0 w j h) f settles)
+pub from_start : (s t : Setup) (stride : ℕ) (g : World) (j : List Entry) (h : World) → t ≡ s → g ≡ start s →
+    Settles t stride 0 g j h → Settles s stride 0 (start s) j h
+from_start s t stride g j h e f settles = subst (λ u. Settles u stride 0 (start s) j h) e
+    (subst (λ w. Settles t stride 0 w j h) f settles)
 
 abbrev answer : Status → List ℕ → Answer
 answer status text = record { status = status; text = text }
@@ -65,12 +69,16 @@ tale s o j j1 g ops records f w a hj hf hw ha =
 
 -- the first break, on a flat machine at its start
 pub broken_is :
-    (s : Setup) (j j1 : List Entry) (m : Machine) (sizes : Sizes) (init : List (ℕ × ℕ)) (programs : List (List Instr)) (b : Option Break) →
-    b ≡ break_from m 0 j1 → m ≡ start_of sizes init programs → sizes ≡ s.shape → init ≡ s.init → programs ≡ s.programs → j1 ≡ j → b ≡ first_break s j
+    (s : Setup) (j j1 : List Entry) (m : Machine) (sizes : Sizes) (init : List (ℕ × ℕ)) (programs : List (List Instr))
+    (b : Option Break) →
+    b ≡ break_from m 0 j1 → m ≡ start_of sizes init programs → sizes ≡ s.shape → init ≡ s.init → programs ≡ s.programs →
+    j1 ≡ j → b ≡ first_break s j
 broken_is s j j1 m sizes init programs b hb hm hs hi hp hj =
-    hb ∙ ap (λ x. break_from x 0 j1) (hm ∙ ap (λ x. start_of x init programs) hs ∙ ap (λ x. start_of s.shape x programs) hi ∙ ap (λ x. start_of s.shape s.init x) hp)
+    hb ∙ ap (λ x. break_from x 0 j1) (hm ∙ ap (λ x. start_of x init programs) hs ∙ ap (λ x. start_of s.shape x programs) hi
+    ∙ ap (λ x. start_of s.shape s.init x) hp)
     ∙ ap (λ x. break_from (start_of s.shape s.init s.programs) 0 x) hj
 
 -- what is made of the code of a protocol is its text
-pub coded : (p : Protocol) (code : Code) (text : List ℕ) → IsCode p code → text ≡ text_of p code → TellsOfCode p (record { status = Done; text = text })
+pub coded : (p : Protocol) (code : Code) (text : List ℕ) → IsCode p code → text ≡ text_of p code →
+    TellsOfCode p (record { status = Done; text = text })
 coded p code text is e = record { code = code; is_code = is; tells = ap (λ x. answer Done x) e }

@@ -1,5 +1,6 @@
 -- A report that is asked for no counts is the same, whatever was counted, and so is a summary.
-use Rattle.std.proofs.Common.{◌≡◌, ℕ, zero, suc, ◌+◌, ◌&&◌, Bool, false, List, ◌++◌, Option, if◌then◌else◌, codes, map, refl, ap, ◌∙◌}
+use Rattle.std.proofs.Common.{◌≡◌, ℕ, zero, suc, ◌+◌, ◌&&◌, Bool, false, List, ◌++◌, Option, if◌then◌else◌, codes, map, refl}
+use Rattle.std.proofs.Common.{ap, ◌∙◌}
 use Rattle.std.specs.List.{list_all, range_with_len}
 use Rattle.tw_base.specs.declared.entry.Entry.{Entry}
 use Rattle.dsm_runs.specs.Setups.{Setup}
@@ -49,10 +50,12 @@ counts_unseen s j g ops records o none =
 
 -- a summary tells no counts
 pub summary_unseen :
-    (p : Protocol) (k : ℕ) (j : List Entry) (s : Setup) (g : World) (ops records : ℕ → ℕ) (words : List ℕ) (broken : Option Break) →
+    (p : Protocol) (k : ℕ) (j : List Entry) (s : Setup) (g : World) (ops records : ℕ → ℕ) (words : List ℕ)
+    (broken : Option Break) →
     summary_under p k j (counted_finals s g ops records) words broken ≡ summary_under p k j (finals_of s g) words broken
 unfolding summary_under
 summary_unseen p k j s g ops records words broken =
     ap (λ (x : List ℕ). summary_head k ++ x ++ sum_line words ++ history_line broken ++ codes "end\n")
-    (lines_alike (summary_node p j) (λ i. counted_final s (g.locals i) (ops i) (records i)) (λ i. final_of s (g.locals i)) (λ m i. refl)
+    (lines_alike (summary_node p j) (λ i. counted_final s (g.locals i) (ops i) (records i)) (λ i. final_of s (g.locals i))
+    (λ m i. refl)
     0 0 s.shape.nodes)

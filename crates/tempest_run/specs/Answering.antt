@@ -127,8 +127,8 @@ sample_answer k j g = record {
 abbrev pub one_sample_answer : ℕ → Answer
 one_sample_answer k = record { status = statuses.Done; text = one_summary k }
 
--- The answer tells of a run of sample k on threads, whichever it was; one memory explains it, and it is sound to its end. It is the
--- same answer whichever run it was.
+-- The answer tells of a run of sample k on threads, whichever it was; one memory explains it, and it is sound to its end. It is
+-- the same answer whichever run it was.
 pub record TellsOfSample (k : ℕ) (a : Answer) : Type 0 where
   pub journal : List Entry
   pub state : World
@@ -166,13 +166,15 @@ why_text why.TooManySends = codes "TooManySends"
 why_text why.NotTwoStarts = codes "NotTwoStarts"
 
 abbrev pub refusal : ℕ → Why → Answer
-refusal number reason = record { status = statuses.Refused; text = line (codes "refused line" ∷ decimal number ∷ why_text reason ∷ []) }
+refusal number reason =
+    record { status = statuses.Refused; text = line (codes "refused line" ∷ decimal number ∷ why_text reason ∷ []) }
 
 -- what an accepted protocol has
 abbrev pub check_answer : Protocol → Answer
 check_answer p = record {
   status = statuses.Done;
-  text = line (codes "accepted" ∷ p.name ∷ codes "messages" ∷ decimal (length p.messages) ∷ codes "infos" ∷ decimal (length p.infos)
+  text = line (codes "accepted" ∷ p.name ∷ codes "messages" ∷ decimal (length p.messages) ∷ codes "infos" ∷ decimal
+      (length p.infos)
       ∷ codes "states" ∷ decimal (length p.states) ∷ codes "handlers" ∷ decimal (length (handlers_of p)) ∷ []);
 }
 

@@ -43,7 +43,8 @@ pub data IsDue (asked : Option Asked) (source source' : Told) (got : List ℕ) :
   -- the words are no command, and the source is as it was
   bad_words : asked ≡ None → got ≡ [] → source' ≡ source → IsDue asked source source' got statuses.Usage refused_words
   -- byte 1,048,577 was got, for a command that reads an input
-  bad_length : (q : Asked) → asked ≡ Some q → reads_input q.command ≡ true → most_input < length got → IsDue asked source source' got statuses.TooLong refused_length
+  bad_length : (q : Asked) → asked ≡ Some q → reads_input q.command ≡ true → most_input < length got →
+      IsDue asked source source' got statuses.TooLong refused_length
   answered : (q : Asked) (a : Answer) → asked ≡ Some q → IsInput (reads_input q.command) source source' got → IsAnswer q got a
       → IsDue asked source source' got a.status a.text
 
@@ -54,10 +55,13 @@ pub data Ends (asked : Option Asked) (source source' sink sink' : Told) (got : L
   wrote : (due : Status) (text : List ℕ) → IsDue asked source source' got due text → Appends sink.bytes sink'.bytes text
       → Ends asked source source' sink sink' got due
   -- the sink failed, and a front of what was due was written
-  write_fault : (due : Status) (text : List ℕ) → IsDue asked source source' got due text → AppendsPrefix sink.bytes sink'.bytes text
+  write_fault : (due : Status) (text : List ℕ) → IsDue asked source source' got due text →
+      AppendsPrefix sink.bytes sink'.bytes text
       → Rose sink.faults sink'.faults → Ends asked source source' sink sink' got statuses.WriteFault
-  -- the source failed behind as many bytes as an input may have, or fewer, for a command that reads one, and the sink is as it was
-  read_fault : (q : Asked) → asked ≡ Some q → reads_input q.command ≡ true → length got ≤ most_input → Rose source.faults source'.faults → sink' ≡ sink
+  -- the source failed behind as many bytes as an input may have, or fewer, for a command that reads one, and the sink is as it
+  -- was
+  read_fault : (q : Asked) → asked ≡ Some q → reads_input q.command ≡ true → length got ≤ most_input →
+      Rose source.faults source'.faults → sink' ≡ sink
       → Ends asked source source' sink sink' got statuses.ReadFault
   -- memory ran out, perhaps before it was known what the words ask for, and the sink is as it was
   no_memory : sink' ≡ sink → Ends asked source source' sink sink' got statuses.Memory
@@ -79,9 +83,11 @@ abbrev pub IsGiven : Option Asked → Told → Told → List ℕ → Result Give
 IsGiven asked source source' got (Ok givens.NoCommand) = (asked ≡ None) × (got ≡ []) × (source' ≡ source)
 IsGiven asked source source' got (Ok givens.TooLong) =
     (q : Asked) × (asked ≡ Some q) × (reads_input q.command ≡ true) × (most_input < length got)
-IsGiven asked source source' got (Ok (givens.Text q text)) = (asked ≡ Some q) × (text ≡ got) × IsInput (reads_input q.command) source source' got
+IsGiven asked source source' got (Ok (givens.Text q text)) =
+    (asked ≡ Some q) × (text ≡ got) × IsInput (reads_input q.command) source source' got
 IsGiven asked source source' got (Err stops.ReadFault) =
-    (q : Asked) × (asked ≡ Some q) × (reads_input q.command ≡ true) × (length got ≤ most_input) × Rose source.faults source'.faults
+    (q : Asked) × (asked ≡ Some q) × (reads_input q.command ≡ true) × (length got ≤ most_input)
+    × Rose source.faults source'.faults
 IsGiven asked source source' got (Err stops.Memory) = Unit {0}
 
 pub record Gives (asked : Option Asked) (source source' : Told) (result : Result Given Stopped) : Type 0 where

@@ -89,8 +89,8 @@ IsOfText (choices.Shipped line which) = Unit {0}
 abbrev pub under : Settings → Protocol → Setup
 under s p = record { version = s.version; shape = s.shape; init = s.init; programs = s.programs; protocol = p }
 
--- What a text sets up and the lines of its report, or its first fault: first of its tokens, then of its layout, of its numbers, of its
--- programs, and of its protocol.
+-- What a text sets up and the lines of its report, or its first fault: first of its tokens, then of its layout, of its numbers,
+-- of its programs, and of its protocol.
 unfoldable pub input_of : Ending → List ℕ → Result (Setup × Body) InputError
 input_of ending text = settings_and_report ending text >>= λ i. protocol_of i.0.protocol >>= λ p. Ok (under i.0 p, i.1)
 

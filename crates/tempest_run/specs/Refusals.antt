@@ -31,16 +31,19 @@ pub data IsRefused (ending : Ending) (text : List ℕ) (line : ℕ) (why : Why) 
   early : IsRefusedEarly ending text line why → IsRefused ending text line why
   -- the lines of its protocol have their first fault there: a line of no form, one that cannot stand at its place, or one behind
   -- which there is too much of something
-  no_tree : (body : Body) (e : ParseError) → HasSection ending text body → Refuses body.lines body.end e → unread e ≡ Refused line why → IsRefused ending text line why
+  no_tree : (body : Body) (e : ParseError) → HasSection ending text body → Refuses body.lines body.end e →
+      unread e ≡ Refused line why → IsRefused ending text line why
   -- the lines of its protocol spell a tree, which breaks its first rule there
-  breaks : (body : Body) (p : Protocol) (rule : Rule) → HasSection ending text body → IsTree p → IsGiven body.lines p → IsFirstBreak p line rule → why ≡ broken_rule rule
+  breaks : (body : Body) (p : Protocol) (rule : Rule) → HasSection ending text body → IsTree p → IsGiven body.lines p →
+      IsFirstBreak p line rule → why ≡ broken_rule rule
       → IsRefused ending text line why
 
 -- a text sets something up or is refused at a line
 abbrev pub TextIsValidOrRefused : Type 0
 TextIsValidOrRefused =
     (ending : Ending) (text : List ℕ)
-    → ((s : Setup) × (report : Body) × (input_of ending text ≡ Ok (s, report))) ⊎ ((line : ℕ) × (why : Why) × IsRefused ending text line why)
+    → ((s : Setup) × (report : Body) × (input_of ending text ≡ Ok (s, report)))
+    ⊎ ((line : ℕ) × (why : Why) × IsRefused ending text line why)
 
 -- never both
 abbrev pub TextIsNeverBoth : Type 0
@@ -51,7 +54,8 @@ TextIsNeverBoth =
 -- and at one line for one reason
 abbrev pub RefusalIsOne : Type 0
 RefusalIsOne =
-    (ending : Ending) (text : List ℕ) (line other : ℕ) (why reason : Why) → IsRefused ending text line why → IsRefused ending text other reason
+    (ending : Ending) (text : List ℕ) (line other : ℕ) (why reason : Why) → IsRefused ending text line why →
+    IsRefused ending text other reason
     → (line ≡ other) × (why ≡ reason)
 
 -- the refusal that is found is of one of the kinds, and each of a kind is found

@@ -1,7 +1,8 @@
 -- The exit statuses of the program.
 use Rattle.std.specs.Prelude.{ℕ}
 use Rattle.tempest_run.specs.declared.status.Status.{Status}
-use Rattle.tempest_run.specs.declared.status.Status.TheVariants.{Done, Memory, Usage, ReadFault, WriteFault, TooLong, Refused, Denied, Unfinished}
+use Rattle.tempest_run.specs.declared.status.Status.TheVariants.{Done, Memory, Usage, ReadFault, WriteFault, TooLong, Refused}
+use Rattle.tempest_run.specs.declared.status.Status.TheVariants.{Denied, Unfinished}
 
 abbrev pub code_of : Status → ℕ
 code_of Done = 0

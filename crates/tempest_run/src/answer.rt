@@ -2,7 +2,9 @@ ghost use Rattle.std.specs.Prelude.{◌≡◌, ◌+◌, ◌^◌, ◌<◌, true, 
 ghost use Rattle.std.specs.List.{list_all};
 ghost use Rattle.dsm_runs.specs.Setups.{IsSetup};
 ghost use Rattle.journal.specs.History.{first_break};
-ghost use Rattle.tempest_run.specs.Answering.{Answers, AnswersAlone, IsAnswer, IsRun, TellsOfAudit, TellsOfCode, TellsOfReplay, TellsOfRun, ending_of, has_halted, is_threaded, options_of, reads_input, refusal, show_answer, status_of, table_answer, told_answer, trial_answer, why_text};
+ghost use Rattle.tempest_run.specs.Answering.{Answers, AnswersAlone, IsAnswer, IsRun, TellsOfAudit, TellsOfCode, TellsOfReplay};
+ghost use Rattle.tempest_run.specs.Answering.{TellsOfRun, ending_of, has_halted, is_threaded, options_of, reads_input, refusal};
+ghost use Rattle.tempest_run.specs.Answering.{show_answer, status_of, table_answer, told_answer, trial_answer, why_text};
 
 use crate::accepted::check_answer;
 use crate::given::reads_input;

@@ -54,7 +54,8 @@ pub fn answer_given(alloc: Global, given: &Given) -> Result<Due, Memory>
 
 /// Writes what is due.
 pub fn write_due<K: Sink>(sink: &mut K, due: &Due) -> Status
-    ensures { Writes (due_status due.now) (due_text due.now) (told (K.written sink.old) (K.faults sink.old)) (told (K.written sink.new) (K.faults sink.new)) result }
+    ensures { Writes (due_status due.now) (due_text due.now) (told (K.written sink.old) (K.faults sink.old))
+        (told (K.written sink.new) (K.faults sink.new)) result }
 {
     match write_all_counted(sink, due.text()) {
         Ok(()) => due.status(),

@@ -46,7 +46,8 @@ pub fn read_given<S: Source>(
     asked: Option<Asked>,
     source: &mut S,
 ) -> Result<Given, Stopped>
-    ensures { Gives asked (told (S.left source.old) (S.faults source.old)) (told (S.left source.new) (S.faults source.new)) result }
+    ensures { Gives asked (told (S.left source.old) (S.faults source.old))
+        (told (S.left source.new) (S.faults source.new)) result }
 {
     let Some(asked) = asked else {
         return Ok(Given::NoCommand);

@@ -4,7 +4,8 @@ ghost use Rattle.tw_base.specs.Answers.{Gives};
 ghost use Rattle.teapot_tree.specs.Grammar.{IsTree};
 ghost use Rattle.teapot_parse.specs.Given.{AreTextLines};
 ghost use Rattle.tempest_input.specs.Layout.{is_memory};
-ghost use Rattle.tempest_run.specs.Inputs.{IsOfText, accepted, broken_rule, input_of, protocol_of, section_protocol, setup_in, shipped_protocol, under};
+ghost use Rattle.tempest_run.specs.Inputs.{IsOfText, accepted, broken_rule, input_of, protocol_of, section_protocol, setup_in};
+ghost use Rattle.tempest_run.specs.Inputs.{shipped_protocol, under};
 
 use dsm_runs::Setup;
 use stache_d_protocol::stache_d;

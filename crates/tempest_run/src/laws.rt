@@ -1,6 +1,8 @@
-ghost use Rattle.tempest_run.specs.CallLaws.{InputIsAnswered, LengthIsRefused, OthersAreAnswered, StatusesSay, ValidTextsAreAnswered, WordsAreRefused};
+ghost use Rattle.tempest_run.specs.CallLaws.{InputIsAnswered, LengthIsRefused, OthersAreAnswered, StatusesSay};
+ghost use Rattle.tempest_run.specs.CallLaws.{ValidTextsAreAnswered, WordsAreRefused};
 ghost use Rattle.tempest_run.specs.Laws.{AnswerIsOne};
-ghost use Rattle.tempest_run.specs.Refusals.{RefusalIsOfAKind, RefusalIsOne, TextIsNeverBoth, TextIsNoMemory, TextIsValidOrRefused};
+ghost use Rattle.tempest_run.specs.Refusals.{RefusalIsOfAKind, RefusalIsOne, TextIsNeverBoth, TextIsNoMemory};
+ghost use Rattle.tempest_run.specs.Refusals.{TextIsValidOrRefused};
 
 use compiled_meaning::one_code;
 use counted_runs::counts_are_one;

@@ -174,7 +174,8 @@ pub fn threaded_call<R: Threads + Wait + Sync, S: Source, K: Sink, G: Gate + Syn
     sink: &mut K,
     gate: &G,
 ) -> Status
-    ensures { TopCall (Some asked) (told (S.left source.old) (S.faults source.old)) (told (S.left source.new) (S.faults source.new))
+    ensures { TopCall (Some asked) (told (S.left source.old) (S.faults source.old))
+        (told (S.left source.new) (S.faults source.new))
         (told (K.written sink.old) (K.faults sink.old)) (told (K.written sink.new) (K.faults sink.new)) result }
 {
     let given = match read_given(alloc, Some(asked), source) {

@@ -25,7 +25,8 @@ pub fn tempest_plain<S: Source, K: Sink>(
     source: &mut S,
     sink: &mut K,
 ) -> Status
-    ensures { TopCall (asked_plain (map string_bytes words.now)) (told (S.left source.old) (S.faults source.old)) (told (S.left source.new) (S.faults source.new))
+    ensures { TopCall (asked_plain (map string_bytes words.now)) (told (S.left source.old) (S.faults source.old))
+        (told (S.left source.new) (S.faults source.new))
         (told (K.written sink.old) (K.faults sink.old)) (told (K.written sink.new) (K.faults sink.new)) result }
 {
     let Ok(asked) = asked_plain(alloc, words) else {
@@ -51,7 +52,8 @@ pub fn tempest<R: Threads + Wait + Sync, S: Source, K: Sink, G: Gate + Sync>(
     sink: &mut K,
     gate: &G,
 ) -> Status
-    ensures { TopCall (asked (map string_bytes words.now)) (told (S.left source.old) (S.faults source.old)) (told (S.left source.new) (S.faults source.new))
+    ensures { TopCall (asked (map string_bytes words.now)) (told (S.left source.old) (S.faults source.old))
+        (told (S.left source.new) (S.faults source.new))
         (told (K.written sink.old) (K.faults sink.old)) (told (K.written sink.new) (K.faults sink.new)) result }
 {
     match asked(alloc, words) {

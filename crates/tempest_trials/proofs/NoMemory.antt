@@ -1,5 +1,6 @@
 -- No report is due want of memory.
-use Rattle.std.proofs.Common.{◌≡◌, ℕ, ◌+◌, Bool, true, false, cond, nat_lt, List, [], ◌∷◌, drop, length, take, Option, Some, None, Result, Ok, Err, ap}
+use Rattle.std.proofs.Common.{◌≡◌, ℕ, ◌+◌, Bool, true, false, cond, nat_lt, List, [], ◌∷◌, drop, length, take, Option, Some}
+use Rattle.std.proofs.Common.{None, Result, Ok, Err, ap}
 use Rattle.tw_base.specs.Answers.{◌>>=◌}
 use Rattle.tw_base.specs.Shape.{Sizes}
 use Rattle.tw_base.specs.declared.entry.Act.{Act}
@@ -13,13 +14,15 @@ use Rattle.dsm_runs.specs.Worlds.{World, start}
 use Rattle.report_reader.specs.declared.error.AuditError.{AuditError}
 use Rattle.report_reader.specs.declared.error.AuditError.TheVariants.{Denied, Memory}
 use Rattle.report_reader.specs.declared.error.AuditRule.{AuditRule}
-use Rattle.report_reader.specs.declared.error.AuditRule.TheVariants.{BadNumber, TooFew, WrongAct, WrongHistory, WrongNode, WrongPrint, WrongRegister, WrongWord}
+use Rattle.report_reader.specs.declared.error.AuditRule.TheVariants.{BadNumber, TooFew, WrongAct, WrongHistory, WrongNode}
+use Rattle.report_reader.specs.declared.error.AuditRule.TheVariants.{WrongPrint, WrongRegister, WrongWord}
 use Rattle.report_reader.specs.declared.kind.LineKind.TheVariants as kinds
 use Rattle.report_reader.specs.declared.lines.Printed.{Printed}
 use Rattle.report_reader.specs.declared.lines.PrintedLine.{PrintedLine}
 use Rattle.report_reader.specs.Forms.{head_form, is_line}
 use Rattle.report_reader.specs.Slots.{fits}
-use Rattle.report_reader.specs.Reading.{at_end, ended_if, history_in, is_number, misfit, numbered, past_counts, past_head, past_if, past_nodes, read_in, told_if, told_in, with_end}
+use Rattle.report_reader.specs.Reading.{at_end, ended_if, history_in, is_number, misfit, numbered, past_counts, past_head}
+use Rattle.report_reader.specs.Reading.{past_if, past_nodes, read_in, told_if, told_in, with_end}
 use Rattle.printed_lines.specs.Reading.{event_in, node_of}
 use Rattle.printed_lines.specs.Saying.{says}
 use Rattle.printed_lines.specs.Tokens.{act_tokens, whats}
@@ -44,7 +47,8 @@ never-denied line rule h = absurd (cc h)
 err-same : {A : Type 0} (e k : AuditError) → ◌≡◌ {A = Result A AuditError} (Err e) (Err k) → e ≡ k
 err-same e k h = cc h
 
-never-then : {A B : Type 0} (r : Result A AuditError) (f : A → Result B AuditError) → Never r → ((x : A) → Never (f x)) → Never (r >>= f)
+never-then : {A B : Type 0} (r : Result A AuditError) (f : A → Result B AuditError) → Never r → ((x : A) → Never (f x)) →
+    Never (r >>= f)
 never-then (Ok x) f n m h = m x h
 never-then (Err e) f n m h = n (ap Err (err-same e Memory h))
 
@@ -119,7 +123,8 @@ report-never s after lines = never-then _ _ (head-never s.version s.shape after 
 
 -- ---- one flat memory
 
-as-never : (p : Protocol) (x : Executed) (l : PrintedLine) (node : ℕ) (did : Option (Act × Machine)) → Never (executed_as p x l node did)
+as-never : (p : Protocol) (x : Executed) (l : PrintedLine) (node : ℕ) (did : Option (Act × Machine)) →
+    Never (executed_as p x l node did)
 as-never p x l node None = never-denied l.line WrongAct
 as-never p x l node (Some did) = or-denied (says (act_tokens p did.0) (whats (drop 6 l.tokens))) _ l.line WrongAct
 
@@ -152,18 +157,21 @@ audited-never s p =
 
 -- ---- events made anew
 
-told-line-never : (own : Bool) (l : PrintedLine) (Rest : Result World AuditError → Type 0) (r : Result World AuditError) → (Rest r → Never r) → Told own l Rest r → Never r
+told-line-never : (own : Bool) (l : PrintedLine) (Rest : Result World AuditError → Type 0) (r : Result World AuditError) →
+    (Rest r → Never r) → Told own l Rest r → Never r
 told-line-never true l Rest r n h e = n h e
 told-line-never false l Rest r n h e = absurd (cc (h, e))
 
-happens-never : (may : Bool) (s : Setup) (g : World) (k : ℕ) (l : PrintedLine) (ls : List PrintedLine) (r : Result World AuditError)
+happens-never : (may : Bool) (s : Setup) (g : World) (k : ℕ) (l : PrintedLine) (ls : List PrintedLine)
+    (r : Result World AuditError)
     → ((next : World) → Leads s next (k + 1) ls r → Never r) → Happens may s g k l (λ next. Leads s next (k + 1) ls) r → Never r
 happens-never false s g k l ls r n h e = absurd (cc (h, e))
 happens-never true s g k l ls r n h e = told-line-never (is_told s k h.0 l) l (Leads s h.1 (k + 1) ls) r (n h.1) h.3 e
 
 leads-never : (s : Setup) (g : World) (k : ℕ) (ls : List PrintedLine) (r : Result World AuditError) → Leads s g k ls r → Never r
 leads-never s g k [] r h e = absurd (cc (h, e))
-leads-never s g k (l ∷ ls) r h e = happens-never (may_happen s g (event_in l.tokens)) s g k l ls r (λ next x. leads-never s next (k + 1) ls r x) h e
+leads-never s g k (l ∷ ls) r h e = happens-never (may_happen s g (event_in l.tokens)) s g k l ls r
+    (λ next x. leads-never s next (k + 1) ls r x) h e
 
 events-never : (p : Printed) (count : ℕ) (g : World) → Never (with_events p count g)
 events-never p count g = go (nat_lt (length p.events) count)
@@ -175,7 +183,8 @@ events-never p count g = go (nat_lt (length p.events) count)
 replays-never : (s : Setup) (p : Printed) (count : ℕ) (r : Result World AuditError) → Replays s p count r → Never r
 replays-never s p count r h e =
     let there : (h.made >>= λ g. with_events p count g) ≡ Err Memory = cc (h.enough, e) in
-    never-then h.made (λ g. with_events p count g) (leads-never s (start s) 0 (take count p.events) h.made h.leads) (λ g. events-never p count g) there
+    never-then h.made (λ g. with_events p count g) (leads-never s (start s) 0 (take count p.events) h.made h.leads)
+    (λ g. events-never p count g) there
 
 pub trials_no_memory : TrialsAreNoMemory
 trials_no_memory = record {

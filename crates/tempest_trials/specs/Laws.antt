@@ -12,8 +12,10 @@ use Rattle.tempest_trials.specs.Trials.{IsAudit, IsReplay}
 
 -- a report has one audit, and so many of its events are made anew in one way
 pub record TrialsAreOne : Type 0 where
-  pub audit : (s : Setup) (after : ℕ) (lines : List Line) (t u : Trial) → IsAudit s after lines t → IsAudit s after lines u → t ≡ u
-  pub replay : (count : ℕ) (s : Setup) (after : ℕ) (lines : List Line) (t u : Trial) → IsReplay count s after lines t → IsReplay count s after lines u → t ≡ u
+  pub audit : (s : Setup) (after : ℕ) (lines : List Line) (t u : Trial) → IsAudit s after lines t → IsAudit s after lines u →
+      t ≡ u
+  pub replay : (count : ℕ) (s : Setup) (after : ℕ) (lines : List Line) (t u : Trial) → IsReplay count s after lines t →
+      IsReplay count s after lines u → t ≡ u
 
 -- no report is due want of memory
 pub record TrialsAreNoMemory : Type 0 where

@@ -87,7 +87,10 @@ module _ (rows : List Row) (pending : Pending) (shown : List Row) (settles : Set
 -- the next word
 pub batch_comes : (rows : List Row) (position : ℕ) (x : Text) → IsPlain x
     → Goes (awaiting rows position) x (idle_at rows (Some (codes "batch", x ∷ [])) position)
-batch_comes rows position x is = record { fault = is.fault true position rows batch_pending; walks = is.walks true position rows batch_pending }
+batch_comes rows position x is = record {
+  fault = is.fault true position rows batch_pending;
+  walks = is.walks true position rows batch_pending;
+}
 
 -- ---- positionals
 

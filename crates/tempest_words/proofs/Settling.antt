@@ -22,7 +22,13 @@ abbrev pub held : List Row → Pending → Held
 held rows pending = record { rows = rows; pending = pending; skip = 0 }
 
 abbrev pub walk_at : Held → Waiting → ℕ → Bool → Walk
-walk_at k waiting position ended = record { held = k; waiting = waiting; position = position; is_trailing = ended; stopped = None }
+walk_at k waiting position ended = record {
+  held = k;
+  waiting = waiting;
+  position = position;
+  is_trailing = ended;
+  stopped = None;
+}
 
 -- what waits for a value, or nothing does
 abbrev pub waiting_by : Bool → Waiting

@@ -1,6 +1,7 @@
 ghost use Rattle.std.specs.Prelude.{◌≡◌};
 ghost use Rattle.std.specs.Option.{option_copied};
-ghost use Rattle.tempest_words.specs.Words.{asked_by, batch_of, command_by, command_of, number_of, numbered_command, plain_command, takes_options};
+ghost use Rattle.tempest_words.specs.Words.{asked_by, batch_of, command_by, command_of, number_of, numbered_command};
+ghost use Rattle.tempest_words.specs.Words.{plain_command, takes_options};
 
 use crate::{Asked, Command};
 

@@ -18,7 +18,8 @@ stand read_back say_all are_replayed one_end are_explained s j g ops records o b
     let b = back.read in
     let report : Printed = report_with b.prints b.words_told b.registers b.nodes b.events b.history in
     let say = say_all s j finals (words_of s g) (first_break s j) o back.lines b asked in
-    let replayed : (k : ℕ) → k ≤ length j → IsReplayed s j report k = λ k le. are_replayed s j g report k is r say.events_say le in
+    let replayed : (k : ℕ) → k ≤ length j → IsReplayed s j report k =
+    λ k le. are_replayed s j g report k is r say.events_say le in
     record {
       lines = back.lines;
       report = report;

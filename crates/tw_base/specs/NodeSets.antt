@@ -1,5 +1,6 @@
 -- A set of nodes is eight truth values, one for each node number: whether it is a member.
-use Rattle.std.specs.Prelude.{ℕ, zero, suc, ◌+◌, ◌*◌, ◌/◌, ◌%◌, ◌==◌, Bool, true, false, List, [], ◌∷◌, replicate, slice_get, slice_set, unwrap_or}
+use Rattle.std.specs.Prelude.{ℕ, zero, suc, ◌+◌, ◌*◌, ◌/◌, ◌%◌, ◌==◌, Bool, true, false, List, [], ◌∷◌, replicate, slice_get}
+use Rattle.std.specs.Prelude.{slice_set, unwrap_or}
 use Rattle.tw_base.specs.Lists.{one_if, sum_below}
 
 unfoldable pub empty : List Bool

@@ -22,7 +22,13 @@ impl Model for MemSource {
 
     ghost Value = { Supply };
 
-    ghost view = { λ s. record { left = drop s.next s.bytes.items; piece = s.piece; fails = s.fails.items; calls = s.calls; faults = s.faults } };
+    ghost view = { λ s. record {
+      left = drop s.next s.bytes.items;
+      piece = s.piece;
+      fails = s.fails.items;
+      calls = s.calls;
+      faults = s.faults;
+    } };
 
     ghost invariant = { λ s. (0 < s.piece) × (s.next ≤ length s.bytes.items) };
 }
@@ -99,7 +105,14 @@ impl Model for MemSink {
 
     ghost Value = { Intake };
 
-    ghost view = { λ k. record { written = k.bytes.items; room = k.room; piece = k.piece; fails = k.fails.items; calls = k.calls; faults = k.faults } };
+    ghost view = { λ k. record {
+      written = k.bytes.items;
+      room = k.room;
+      piece = k.piece;
+      fails = k.fails.items;
+      calls = k.calls;
+      faults = k.faults;
+    } };
 
     // its memory was taken at its making
     ghost invariant = { λ k. (0 < k.piece) × (length k.bytes.items ≤ k.room) × (k.room ≤ vec_capacity k.bytes) };
@@ -112,7 +125,14 @@ impl MemSink {
     /// `fails` or `room` bytes were written. No write takes memory.
     pub fn new(alloc: Global, room: usize, piece: usize, fails: Vec<u64>) -> Result<Self, Memory>
         requires { 0 < piece }
-        ensures { let fresh : Intake = record { written = []; room = room; piece = piece; fails = fails.items; calls = 0; faults = 0 }
+        ensures { let fresh : Intake = record {
+          written = [];
+          room = room;
+          piece = piece;
+          fails = fails.items;
+          calls = 0;
+          faults = 0;
+        }
             in IfOk result (λ sink. sink ≡ fresh) }
     {
         Ok(MemSink {

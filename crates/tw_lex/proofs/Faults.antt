@@ -1,5 +1,6 @@
 -- A fault of a text is that of its first line with a fault.
-use Rattle.std.proofs.Common.{◌≡◌, ℕ, ◌+◌, Bool, true, false, cond, List, [], ◌∷◌, length, Option, Some, None, Result, Ok, Err, refl, sym, ap, ◌∙◌, inl, inr}
+use Rattle.std.proofs.Common.{◌≡◌, ℕ, ◌+◌, Bool, true, false, cond, List, [], ◌∷◌, length, Option, Some, None, Result, Ok, Err}
+use Rattle.std.proofs.Common.{refl, sym, ap, ◌∙◌, inl, inr}
 use Rattle.std.specs.Prelude.{◌⊎◌}
 use Rattle.std.specs.List.{list_all}
 use Rattle.tw_base.specs.Answers.{◌>>=◌}
@@ -19,32 +20,41 @@ error_of (Err e) = e
 err-is : {X : Type 0} {u v : Result X LexError} → u ≡ v → error_of u ≡ error_of v
 err-is e = ap error_of e
 
-bad-is : (number : ℕ) (found : Option (List Token)) (e : LexError) → or_bad number found ≡ Err e → (e ≡ BadToken number) × (found ≡ None)
+bad-is : (number : ℕ) (found : Option (List Token)) (e : LexError) → or_bad number found ≡ Err e →
+    (e ≡ BadToken number) × (found ≡ None)
 bad-is number None e is = (sym (err-is is), refl)
 bad-is number (Some ts) e is = absurd (cc)
 
 fault-is : (v : Bool) (number start : ℕ) (line : List ℕ) (e : LexError) → list_all is_allowed (code_of line) ≡ v
     → cond v (tokens_of number start (code_of line)) (Err (NotAscii number)) ≡ Err e → IsFaultOf number start line e
-fault-is true number start line e allowed is = let p = bad-is number (tokens_from 0 start (code_of line)) e is in inr (p.0, allowed, p.1)
+fault-is true number start line e allowed is = let p = bad-is number (tokens_from 0 start (code_of line)) e is in inr
+    (p.0, allowed, p.1)
 fault-is false number start line e allowed is = inl (sym (err-is is), allowed)
 
-rest-is : (ts : List Token) (number : ℕ) (rest : Result (List Line) LexError) (e : LexError) → (rest >>= λ ls. Ok (with_line number ts ls)) ≡ Err e → rest ≡ Err e
+rest-is : (ts : List Token) (number : ℕ) (rest : Result (List Line) LexError) (e : LexError) →
+    (rest >>= λ ls. Ok (with_line number ts ls)) ≡ Err e → rest ≡ Err e
 rest-is ts number (Ok ls) e is = absurd (cc)
 rest-is ts number (Err f) e is = ap Err (err-is is)
 
-line-is : (number start : ℕ) (line : List ℕ) (rest : Result (List Line) LexError) (found : Result (List Token) LexError) (e : LexError) (P : Type 0) → line_tokens number start line ≡ found
-    → (found >>= λ ts. rest >>= λ ls. Ok (with_line number ts ls)) ≡ Err e → (rest ≡ Err e → P) → IsFaultOf number start line e ⊎ (((ts : List Token) × (line_tokens number start line ≡ Ok ts)) × P)
+line-is : (number start : ℕ) (line : List ℕ) (rest : Result (List Line) LexError) (found : Result (List Token) LexError)
+    (e : LexError) (P : Type 0) → line_tokens number start line ≡ found
+    → (found >>= λ ts. rest >>= λ ls. Ok (with_line number ts ls)) ≡ Err e → (rest ≡ Err e → P) →
+    IsFaultOf number start line e ⊎ (((ts : List Token) × (line_tokens number start line ≡ Ok ts)) × P)
 line-is number start line rest (Ok ts) e P here is f = inr ((ts, here), f (rest-is ts number rest e is))
-line-is number start line rest (Err f) e P here is g = inl (fault-is (list_all is_allowed (code_of line)) number start line e refl (here ∙ ap Err (err-is is)))
+line-is number start line rest (Err f) e P here is g =
+    inl (fault-is (list_all is_allowed (code_of line)) number start line e refl (here ∙ ap Err (err-is is)))
 
-first-fault : (number start : ℕ) (lines : List (List ℕ)) (e : LexError) → lines_from number start lines ≡ Err e → IsFirstFault number start lines e
+first-fault : (number start : ℕ) (lines : List (List ℕ)) (e : LexError) → lines_from number start lines ≡ Err e →
+    IsFirstFault number start lines e
 unfolding lines_from
 first-fault number start [] e is = absurd (cc)
 first-fault number start (line ∷ rest) e is =
     line-is number start line (lines_from (number + 1) (start + length line + 1) rest) (line_tokens number start line) e
-    (IsFirstFault (number + 1) (start + length line + 1) rest e) refl is (first-fault (number + 1) (start + length line + 1) rest e)
+    (IsFirstFault (number + 1) (start + length line + 1) rest e) refl is
+    (first-fault (number + 1) (start + length line + 1) rest e)
 
-lexed-is : {X : Type 0} (found : Result (List Line) LexError) (f : List Line → X) (e : LexError) → (found >>= λ ls. Ok (f ls)) ≡ Err e → found ≡ Err e
+lexed-is : {X : Type 0} (found : Result (List Line) LexError) (f : List Line → X) (e : LexError) →
+    (found >>= λ ls. Ok (f ls)) ≡ Err e → found ≡ Err e
 lexed-is (Ok ls) f e is = absurd (cc)
 lexed-is (Err g) f e is = ap Err (err-is is)
 

@@ -1,5 +1,7 @@
 -- Going over the code of a line, token by token.
-use Rattle.std.proofs.Common.{◌≡◌, ℕ, zero, suc, ◌+◌, ◌-◌, ◌<◌, ◌≤◌, Bool, true, false, cond, ◌||◌, List, [], ◌∷◌, ◌++◌, length, get_or, drop, Option, Some, None, IfSome, refl, sym, ap, ◌∙◌, subst, append_assoc, add-zero, sub-one, arith}
+use Rattle.std.proofs.Common.{◌≡◌, ℕ, zero, suc, ◌+◌, ◌-◌, ◌<◌, ◌≤◌, Bool, true, false, cond, ◌||◌, List, [], ◌∷◌, ◌++◌, length}
+use Rattle.std.proofs.Common.{get_or, drop, Option, Some, None, IfSome, refl, sym, ap, ◌∙◌, subst, append_assoc, add-zero}
+use Rattle.std.proofs.Common.{sub-one, arith}
 use Rattle.std.specs.Prelude.{not, nat_le}
 use Rattle.std.specs.Option.{option_map}
 use Rattle.std.specs.List.{position_or_len}
@@ -59,7 +61,8 @@ run-short : (bytes : List ℕ) → length (word_run bytes) ≤ length bytes
 run-short bytes = omega (arith, run-length bytes, prefix_len-le-length (λ b. not (not (is_word_byte b))) bytes)
 
 run-some : (b : ℕ) (bs : List ℕ) → is_word_byte b ≡ true → 0 < length (word_run (b ∷ bs))
-run-some b bs e = omega (arith, run-length (b ∷ bs), word_run-some (is_word_byte b) (position_or_len (λ b. not (is_word_byte b)) bs) e)
+run-some b bs e =
+    omega (arith, run-length (b ∷ bs), word_run-some (is_word_byte b) (position_or_len (λ b. not (is_word_byte b)) bs) e)
 
 pub lexeme-sized : (bytes : List ℕ) → Sized (length bytes) (lexeme bytes)
 unfolding lexeme
@@ -68,8 +71,12 @@ lexeme-sized (b ∷ bs) =
     let n = length (b ∷ bs) in
     let bytes = b ∷ bs in
     if_sized n (is_word_start b) (word_at (word_run bytes)) (cond (is_digit b) (number_at (word_run bytes)) (mark_at bytes))
-    (λ start. if_sized n (nat_le (length (word_run bytes)) 64) (Some (whats.Word (word_run bytes), length (word_run bytes))) None (λ _. (run-some b bs (start_is_word _ _ start), run-short bytes)) (λ _. tt))
-    (λ _. if_sized n (is_digit b) (number_at (word_run bytes)) (mark_at bytes) (λ digit. number-sized n (number_of (word_run bytes)) (length (word_run bytes)) (run-some b bs (digit_is_word _ _ digit)) (run-short bytes)) (λ _. mark_at-sized bytes))
+    (λ start. if_sized n (nat_le (length (word_run bytes)) 64)
+    (Some (whats.Word (word_run bytes), length (word_run bytes))) None
+    (λ _. (run-some b bs (start_is_word _ _ start), run-short bytes)) (λ _. tt))
+    (λ _. if_sized n (is_digit b) (number_at (word_run bytes)) (mark_at bytes)
+    (λ digit. number-sized n (number_of (word_run bytes)) (length (word_run bytes))
+    (run-some b bs (digit_is_word _ _ digit)) (run-short bytes)) (λ _. mark_at-sized bytes))
 
 pub lexeme-size : (bytes : List ℕ) (what : What) (len : ℕ) → lexeme bytes ≡ Some (what, len) → (0 < len) × (len ≤ length bytes)
 lexeme-size bytes what len e = subst (Sized (length bytes)) e (lexeme-sized bytes)
@@ -92,7 +99,8 @@ with_front front rest = option_map (λ ts. front ++ ts) rest
 abbrev pub token_at : ℕ → ℕ → What → Token
 token_at start len what = record { start = start; end = start + len; what = what }
 
-regroup : (front : List Token) (t : Token) (rest : Option (List Token)) → with_front front (option_map (λ ts. t ∷ ts) rest) ≡ with_front (front ++ t ∷ []) rest
+regroup : (front : List Token) (t : Token) (rest : Option (List Token)) →
+    with_front front (option_map (λ ts. t ∷ ts) rest) ≡ with_front (front ++ t ∷ []) rest
 regroup front t None = refl
 regroup front t (Some ts) = ap Some (simp append_assoc)
 
@@ -103,34 +111,45 @@ put b bs at zero what blank is some = absurd (omega arith)
 put b bs at (suc len) what blank is some =
     let e : at + suc len ≡ at + 1 + len = omega arith in
     let after : tokens_from (suc len - 1) (at + 1) bs ≡ tokens_from 0 (at + suc len) (drop len bs) =
-    ap (λ k. tokens_from k (at + 1) bs) (sub-one (suc len)) ∙ tokens_from-skip len (at + 1) bs ∙ ap (λ n. tokens_from 0 n (drop len bs)) (sym e) in
+    ap (λ k. tokens_from k (at + 1) bs) (sub-one (suc len)) ∙ tokens_from-skip len (at + 1) bs
+    ∙ ap (λ n. tokens_from 0 n (drop len bs)) (sym e) in
     rw (blank, is) (ap (option_map (λ ts. token_at at (suc len) what ∷ ts)) after)
 
 -- ---- the turns of the loop
 
-pub scan-blank : (front : List Token) (code : List ℕ) (start at : ℕ) (total : Option (List Token)) → at < length code → is_blank (get_or code at 0) ≡ true
-    → with_front front (tokens_from 0 (start + at) (drop at code)) ≡ total → with_front front (tokens_from 0 (start + (at + 1)) (drop (at + 1) code)) ≡ total
+pub scan-blank : (front : List Token) (code : List ℕ) (start at : ℕ) (total : Option (List Token)) → at < length code →
+    is_blank (get_or code at 0) ≡ true
+    → with_front front (tokens_from 0 (start + at) (drop at code)) ≡ total →
+    with_front front (tokens_from 0 (start + (at + 1)) (drop (at + 1) code)) ≡ total
 unfolding tokens_from
 scan-blank front code start at total lt blank so_far =
     let d = drop_more code at 0 lt in
     let e : start + (at + 1) ≡ start + at + 1 = omega arith in
-    let one : tokens_from 0 (start + at) (drop at code) ≡ tokens_from 0 (start + (at + 1)) (drop (at + 1) code) = rw (d, blank, e) refl in
+    let one : tokens_from 0 (start + at) (drop at code) ≡ tokens_from 0 (start + (at + 1)) (drop (at + 1) code) =
+    rw (d, blank, e) refl in
     ap (with_front front) (sym one) ∙ so_far
 
-pub scan-token : (front : List Token) (code : List ℕ) (start at len : ℕ) (what : What) (total : Option (List Token)) → at < length code → is_blank (get_or code at 0) ≡ false
+pub scan-token : (front : List Token) (code : List ℕ) (start at len : ℕ) (what : What) (total : Option (List Token)) →
+    at < length code → is_blank (get_or code at 0) ≡ false
     → Some (what, len) ≡ lexeme (drop at code) → with_front front (tokens_from 0 (start + at) (drop at code)) ≡ total
-    → with_front (front ++ token_at (start + at) len what ∷ []) (tokens_from 0 (start + (at + len)) (drop (at + len) code)) ≡ total
+    → with_front (front ++ token_at (start + at) len what ∷ []) (tokens_from 0 (start + (at + len)) (drop (at + len) code))
+    ≡ total
 scan-token front code start at len what total lt blank is so_far =
     let d = drop_more code at 0 lt in
     let size = lexeme-size (drop at code) what len (sym is) in
-    let here : lexeme (get_or code at 0 ∷ drop (at + 1) code) ≡ Some (what, len) = subst (λ bs. lexeme bs ≡ Some (what, len)) d (sym is) in
+    let here : lexeme (get_or code at 0 ∷ drop (at + 1) code) ≡ Some (what, len) =
+    subst (λ bs. lexeme bs ≡ Some (what, len)) d (sym is) in
     let token = token_at (start + at) len what in
-    let one : tokens_from 0 (start + at) (drop at code) ≡ option_map (λ ts. token ∷ ts) (tokens_from 0 (start + at + len) (drop len (drop at code))) = rw d (put (get_or code at 0) (drop (at + 1) code) (start + at) len what blank here size.0) in
+    let one : tokens_from 0 (start + at) (drop at code) ≡ option_map (λ ts. token ∷ ts)
+    (tokens_from 0 (start + at + len) (drop len (drop at code))) =
+    rw d (put (get_or code at 0) (drop (at + 1) code) (start + at) len what blank here size.0) in
     let e : start + at + len ≡ start + (at + len) = omega arith in
-    let two : tokens_from 0 (start + at + len) (drop len (drop at code)) ≡ tokens_from 0 (start + (at + len)) (drop (at + len) code) = rw (e, drop-drop) refl in
+    let two : tokens_from 0 (start + at + len) (drop len (drop at code))
+    ≡ tokens_from 0 (start + (at + len)) (drop (at + len) code) = rw (e, drop-drop) refl in
     sym (regroup front token _) ∙ ap (with_front front) (sym (one ∙ ap (option_map (λ ts. token ∷ ts)) two)) ∙ so_far
 
-pub scan-bad : (front : List Token) (code : List ℕ) (start at : ℕ) (total : Option (List Token)) → at < length code → is_blank (get_or code at 0) ≡ false → None ≡ lexeme (drop at code)
+pub scan-bad : (front : List Token) (code : List ℕ) (start at : ℕ) (total : Option (List Token)) → at < length code →
+    is_blank (get_or code at 0) ≡ false → None ≡ lexeme (drop at code)
     → with_front front (tokens_from 0 (start + at) (drop at code)) ≡ total → total ≡ None
 unfolding tokens_from
 scan-bad front code start at total lt blank is so_far =

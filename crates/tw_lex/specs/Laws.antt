@@ -1,13 +1,15 @@
 -- What the tokens of a text are, in the words of a reader: slices of the text in order, each as long as can be, with
 -- nothing but blanks between them.
-use Rattle.std.specs.Prelude.{◌≡◌, ℕ, ◌+◌, ◌<◌, ◌≤◌, ◌==◌, ◌||◌, ◌⊎◌, not, Bool, true, false, List, [], ◌∷◌, None, Some, Ok, Err, is_some, slice_get, slice_range, length, take, drop, codes}
+use Rattle.std.specs.Prelude.{◌≡◌, ℕ, ◌+◌, ◌<◌, ◌≤◌, ◌==◌, ◌||◌, ◌⊎◌, not, Bool, true, false, List, [], ◌∷◌, None, Some, Ok}
+use Rattle.std.specs.Prelude.{Err, is_some, slice_get, slice_range, length, take, drop, codes}
 use Rattle.std.specs.List.{list_all, list_any}
 use Rattle.tw_base.specs.Lists.{how_many, one_if}
 use Rattle.tw_lex.specs.declared.token.Token.{Token}
 use Rattle.tw_lex.specs.declared.token.What.{What}
 use Rattle.tw_lex.specs.declared.token.What.TheVariants.{Word, Number, Mark as AMark}
 use Rattle.tw_lex.specs.declared.token.Mark.{Mark}
-use Rattle.tw_lex.specs.declared.token.Mark.TheVariants.{Open, Close, BraceOpen, BraceClose, Comma, Semicolon, Colon, Becomes, Plus, Minus, Equal, Unequal, Less, LessEqual, Both, Either}
+use Rattle.tw_lex.specs.declared.token.Mark.TheVariants.{Open, Close, BraceOpen, BraceClose, Comma, Semicolon, Colon, Becomes}
+use Rattle.tw_lex.specs.declared.token.Mark.TheVariants.{Plus, Minus, Equal, Unequal, Less, LessEqual, Both, Either}
 use Rattle.tw_lex.specs.declared.token.Line.{Line}
 use Rattle.tw_lex.specs.declared.token.Lexed.{Lexed}
 use Rattle.tw_lex.specs.declared.token.LexError.{LexError}
@@ -120,7 +122,8 @@ IsLine text line = (from : ℕ) × (to : ℕ) × IsCode text line.number from to
 -- lines of a text that have tokens, with rising numbers, the first of them this or more
 abbrev pub Rise : List ℕ → ℕ → List Line → Type 0
 Rise text number [] = Unit {0}
-Rise text number (line ∷ rest) = (number ≤ line.number) × (0 < length line.tokens) × IsLine text line × Rise text (line.number + 1) rest
+Rise text number (line ∷ rest) = (number ≤ line.number) × (0 < length line.tokens) × IsLine text line
+    × Rise text (line.number + 1) rest
 
 -- whether there is a line of this number
 abbrev pub is_listed : ℕ → List Line → Bool
@@ -134,7 +137,8 @@ LinesAreTheTexts = (text : List ℕ) (found : Lexed) → lexed text ≡ Ok found
 -- No line is left out: where the code of a line of the text is more than blanks, the line is there.
 abbrev pub NoLineIsLeftOut : Type 0
 NoLineIsLeftOut =
-    (text : List ℕ) (found : Lexed) → lexed text ≡ Ok found → (before : ℕ) (line : List ℕ) → slice_get (lines_of text) before ≡ Some line
+    (text : List ℕ) (found : Lexed) → lexed text ≡ Ok found → (before : ℕ) (line : List ℕ) →
+    slice_get (lines_of text) before ≡ Some line
     → list_all is_blank (code_of line) ≡ false → is_listed (before + 1) found.list ≡ true
 
 -- ---- faults
@@ -149,7 +153,8 @@ IsFaultOf number start line e =
 abbrev pub IsFirstFault : ℕ → ℕ → List (List ℕ) → LexError → Type 0
 IsFirstFault number start [] e = ⊥
 IsFirstFault number start (line ∷ rest) e =
-    IsFaultOf number start line e ⊎ (((ts : List Token) × (line_tokens number start line ≡ Ok ts)) × IsFirstFault (number + 1) (start + length line + 1) rest e)
+    IsFaultOf number start line e ⊎ (((ts : List Token) × (line_tokens number start line ≡ Ok ts))
+    × IsFirstFault (number + 1) (start + length line + 1) rest e)
 
 -- A fault of a text is that of its first line with a fault.
 abbrev pub FaultsAreFirst : Type 0

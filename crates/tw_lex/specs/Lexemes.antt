@@ -1,5 +1,6 @@
 -- The token at the front of a text, the longest that there is, and how many bytes it takes.
-use Rattle.std.specs.Prelude.{ℕ, ◌+◌, ◌-◌, ◌*◌, ◌^◌, ◌==◌, ◌&&◌, if◌then◌else◌, not, slice_get, nat_le, nat_lt, List, [], ◌∷◌, length, Option, Some, None}
+use Rattle.std.specs.Prelude.{ℕ, ◌+◌, ◌-◌, ◌*◌, ◌^◌, ◌==◌, ◌&&◌, if◌then◌else◌, not, slice_get, nat_le, nat_lt, List, [], ◌∷◌}
+use Rattle.std.specs.Prelude.{length, Option, Some, None}
 use Rattle.std.specs.List.{fold, list_all, before_first}
 use Rattle.std.specs.Option.{option_map}
 use Rattle.tw_lex.specs.declared.token.Mark.{Mark}

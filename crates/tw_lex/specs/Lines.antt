@@ -1,5 +1,6 @@
 -- The lines of a text, and the tokens of each.
-use Rattle.std.specs.Prelude.{ℕ, zero, suc, ◌+◌, ◌-◌, if◌then◌else◌, List, [], ◌∷◌, length, Bool, true, false, Option, Some, None, Result, Ok, Err}
+use Rattle.std.specs.Prelude.{ℕ, zero, suc, ◌+◌, ◌-◌, if◌then◌else◌, List, [], ◌∷◌, length, Bool, true, false, Option, Some}
+use Rattle.std.specs.Prelude.{None, Result, Ok, Err}
 use Rattle.std.specs.List.{list_all, onto_first}
 use Rattle.std.specs.Option.{option_map}
 use Rattle.tw_base.specs.Answers.{◌>>=◌}
@@ -20,14 +21,16 @@ lines_of (b ∷ bs) = if is_line_feed b then [] ∷ lines_of bs else onto_first 
 -- a token and those after it
 abbrev pub put_token : ℕ → Option (What × ℕ) → (ℕ → Option (List Token)) → Option (List Token)
 put_token at None rest = None
-put_token at (Some found) rest = option_map (λ ts. record { start = at; end = at + found.1; what = found.0 } ∷ ts) (rest (found.1 - 1))
+put_token at (Some found) rest = option_map (λ ts. record { start = at; end = at + found.1; what = found.0 } ∷ ts)
+    (rest (found.1 - 1))
 
 -- The tokens of bytes that begin at a place in the text. The first ones, to be skipped, belong to a token
 -- that is counted already.
 unfoldable pub tokens_from : ℕ → ℕ → List ℕ → Option (List Token)
 tokens_from skip at [] = Some []
 tokens_from (suc skip) at (b ∷ bs) = tokens_from skip (at + 1) bs
-tokens_from zero at (b ∷ bs) = if is_blank b then tokens_from zero (at + 1) bs else put_token at (lexeme (b ∷ bs)) (λ skip. tokens_from skip (at + 1) bs)
+tokens_from zero at (b ∷ bs) = if is_blank b then tokens_from zero (at + 1) bs
+    else put_token at (lexeme (b ∷ bs)) (λ skip. tokens_from skip (at + 1) bs)
 
 abbrev pub or_bad : ℕ → Option (List Token) → Result (List Token) LexError
 or_bad number None = Err (BadToken number)
@@ -37,7 +40,8 @@ abbrev pub tokens_of : ℕ → ℕ → List ℕ → Result (List Token) LexError
 tokens_of number start code = or_bad number (tokens_from 0 start code)
 
 abbrev pub line_tokens : ℕ → ℕ → List ℕ → Result (List Token) LexError
-line_tokens number start line = if list_all is_allowed (code_of line) then tokens_of number start (code_of line) else Err (NotAscii number)
+line_tokens number start line = if list_all is_allowed (code_of line) then tokens_of number start (code_of line)
+    else Err (NotAscii number)
 
 -- a line with no token is left out
 abbrev pub with_line : ℕ → List Token → List Line → List Line

@@ -1,5 +1,6 @@
 -- The wires of one sender are closed after those of another.
-use Rattle.std.proofs.Common.{◌≡◌, ◌<◌, ◌≤◌, ℕ, zero, suc, ◌+◌, ◌*◌, List, [], ◌∷◌, ◌++◌, Option, Some, length, map, drop, get_or, slice_get, refl, ap, sym, ◌∙◌, subst, arith, length-append, length-drop}
+use Rattle.std.proofs.Common.{◌≡◌, ◌<◌, ◌≤◌, ℕ, zero, suc, ◌+◌, ◌*◌, List, [], ◌∷◌, ◌++◌, Option, Some, length, map, drop}
+use Rattle.std.proofs.Common.{get_or, slice_get, refl, ap, sym, ◌∙◌, subst, arith, length-append, length-drop}
 use Rattle.std.specs.Prelude.{All}
 use Rattle.std.specs.Option.{option_and_then, option_to_list}
 use Rattle.std.specs.Global.{Global}

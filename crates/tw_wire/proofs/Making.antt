@@ -1,5 +1,6 @@
 -- A pair of wires, a row and two ends of a column more.
-use Rattle.std.proofs.Common.{◌≡◌, ℕ, zero, suc, ◌+◌, ◌*◌, List, [], ◌∷◌, ◌++◌, Option, Some, length, take, drop, slice_get, refl, ap, sym, ◌∙◌, subst, inl, inr, ◌⊎◌, arith, length-append, append_assoc, add-one}
+use Rattle.std.proofs.Common.{◌≡◌, ℕ, zero, suc, ◌+◌, ◌*◌, List, [], ◌∷◌, ◌++◌, Option, Some, length, take, drop, slice_get}
+use Rattle.std.proofs.Common.{refl, ap, sym, ◌∙◌, subst, inl, inr, ◌⊎◌, arith, length-append, append_assoc, add-one}
 use Rattle.std.specs.Option.{option_and_then}
 use Rattle.std.specs.Global.{Global}
 use Rattle.std.proofs.lemmas.Option.{slice_get_within}
@@ -87,7 +88,11 @@ row-more f k v w row row' is h =
     let b = new_sending (route f k One) w in
     let p = new_receiving (route f k Zero) v in
     let q = new_receiving (route f k One) w in
-    let two : Row = record { wires = row.wires ++ v ∷ w ∷ []; sends = row.sends ++ a ∷ b ∷ []; recvs = row.recvs ++ p ∷ q ∷ [] } in
+    let two : Row = record {
+      wires = row.wires ++ v ∷ w ∷ [];
+      sends = row.sends ++ a ∷ b ∷ [];
+      recvs = row.recvs ++ p ∷ q ∷ [];
+    } in
     let e : with_pair f k v w row ≡ two = λ i. record {
       wires = append_assoc row.wires (v ∷ []) (w ∷ []) i;
       sends = append_assoc row.sends (a ∷ []) (b ∷ []) i;

@@ -1,5 +1,6 @@
 -- The wires of all senders are new wires.
-use Rattle.std.proofs.Common.{◌≡◌, ℕ, zero, suc, List, [], Some, length, map, get_or, slice_get, replicate, refl, ap, sym, ◌∙◌, subst}
+use Rattle.std.proofs.Common.{◌≡◌, ℕ, zero, suc, List, [], Some, length, map, get_or, slice_get, replicate, refl, ap, sym, ◌∙◌}
+use Rattle.std.proofs.Common.{subst}
 use Rattle.std.proofs.lemmas.List.{length-map, length-replicate}
 use Rattle.std.proofs.lemmas.Option.{slice_get-get_or}
 use Rattle.tw_wire.specs.declared.ends.Ends.{Ends}

@@ -1,5 +1,6 @@
 -- Each step of a wire keeps its rule.
-use Rattle.std.proofs.Common.{◌≡◌, ◌≢◌, ℕ, zero, suc, true, false, true≢false, List, [], ◌∷◌, ◌++◌, length, set, sym, refl, ap, ◌∙◌, subst, ⊎_elim, append_assoc}
+use Rattle.std.proofs.Common.{◌≡◌, ◌≢◌, ℕ, zero, suc, true, false, true≢false, List, [], ◌∷◌, ◌++◌, length, set, sym, refl, ap}
+use Rattle.std.proofs.Common.{◌∙◌, subst, ⊎_elim, append_assoc}
 use mathlib.Core.Option.{some, some-ne-none}
 use lib.ListN.{get_elem?}
 use Rattle.crossbeam_queue.specs.Fifo.{Pushes, Pops, Forks, Merges, Learns}
@@ -74,7 +75,8 @@ takes port v may x items views h at = let w : Hand = hand v.sends v.takes v.sent
 -- the two ends are split
 pub splits : (port : ℕ) (v : Hand) → v.sends ≡ true → v.takes ≡ true
     → Forks Carries port v (hand true false v.sent []) (hand false true [] v.taken)
-splits port v a b items views h at = let l : Hand = hand true false v.sent [] in let r : Hand = hand false true [] v.taken in let mine = h.5 port v at in let vs : List Hand = set views port l in
+splits port v a b items views h at = let l : Hand = hand true false v.sent [] in let r : Hand =
+    hand false true [] v.taken in let mine = h.5 port v at in let vs : List Hand = set views port l in
     let Old : ℕ → Hand → Type 0 = λ j u. (u.sends ≡ true → (j ≡ h.0) × (u.sent ≡ h.2)) × (u.takes ≢ true) in
     let old : All Old vs = all_set Old views port l ((λ _. mine.0 a), λ p. true≢false (sym p))
     (λ j u other e. ((h.5 j u e).0, λ p. other (((h.5 j u e).1 p).0 ∙ sym (mine.1 b).0))) in (
@@ -98,7 +100,8 @@ splits port v a b items views h at = let l : Hand = hand true false v.sent [] in
 -- the taker's pass takes in the sender's, which is spent
 pub joins : (port : ℕ) (v : Hand) (other : ℕ) (u : Hand) → v.takes ≡ true → u.sends ≡ true
     → Merges Carries port v other u (hand true true u.sent v.taken) (hand false false [] [])
-joins port v other u a b items views h at two at' = let both : Hand = hand true true u.sent v.taken in let mine = h.5 port v at in let vs : List Hand = set views port both in
+joins port v other u a b items views h at two at' = let both : Hand = hand true true u.sent v.taken in let mine =
+    h.5 port v at in let vs : List Hand = set views port both in
     let was : get_elem? views other ≡ some u = ⊎_elim (λ x. absurd (two x.0)) (λ x. x.1)
     (at_set views port other both u at') in let theirs = (h.5 other u was).0 b in
     let Now : ℕ → Hand → Type 0 = λ j y. j ≢ other → Fits port h.1 h.2 h.3 j y in

@@ -1,5 +1,6 @@
 -- The ends of all nodes stay those of the wires where one node's ends do.
-use Rattle.std.proofs.Common.{◌≡◌, ◌∙◌, ◌<◌, ℕ, zero, suc, List, [], ◌∷◌, Option, Some, length, map, set, get_or, slice_get, refl, arith, ap, sym, subst, length-set}
+use Rattle.std.proofs.Common.{◌≡◌, ◌∙◌, ◌<◌, ℕ, zero, suc, List, [], ◌∷◌, Option, Some, length, map, set, get_or, slice_get}
+use Rattle.std.proofs.Common.{refl, arith, ap, sym, subst, length-set}
 use Rattle.std.proofs.lemmas.List.{length-map, map-set}
 use Rattle.std.proofs.lemmas.Option.{slice_get_read, slice_get-map}
 use Rattle.std.specs.Option.{option_map}

@@ -14,7 +14,8 @@ use Rattle.teapot_meaning.specs.Fits.{names_in}
 use Rattle.teapot_meaning.specs.Names.{info_number}
 use Rattle.handler_code.specs.declared.code.OpCode.{OpCode}
 use Rattle.handler_code.specs.declared.code.OpCode.TheVariants as op
-use Rattle.compiled_meaning.specs.Compiled.{Piece, all_code, code_of, do_code, each_code, else_code, expr_code, expr_step, in_order, loops_in, op_list, rests_in, stmt_code, stmt_step, then_code}
+use Rattle.compiled_meaning.specs.Compiled.{Piece, all_code, code_of, do_code, each_code, else_code, expr_code, expr_step}
+use Rattle.compiled_meaning.specs.Compiled.{in_order, loops_in, op_list, rests_in, stmt_code, stmt_step, then_code}
 use Rattle.compiled_meaning.specs.Follows.{get_op, put_op, slot_of}
 use Rattle.compiled_meaning.specs.Whole.{Entry, entries_of, entry_code}
 use Rattle.value_nodes.specs.Within.{CodeHasNoNodes, IsValueWithin}
@@ -47,20 +48,27 @@ free_put None None = tt
 in_order_free : (fs : List Piece) → Each PieceFree fs → PieceFree (in_order fs)
 in_order_free [] h at r l = tt
 in_order_free (f ∷ fs) h at r l =
-    free_append (f at r l) _ (h.0 at r l) (in_order_free fs h.1 (at + length (f at r l)) (r + rests_in (f at r l)) (l + loops_in (f at r l)))
+    free_append (f at r l) _ (h.0 at r l) (in_order_free fs h.1 (at + length (f at r l)) (r + rests_in (f at r l))
+    (l + loops_in (f at r l)))
 
 then_free : (test : List OpCode) (first : Piece) → Free test → PieceFree first → PieceFree (then_code test first)
 then_free test first t f at r h = free_append test _ t (tt, f (at + length test + 1) r h)
 
-else_free : (test : List OpCode) (first second : Piece) → Free test → PieceFree first → PieceFree second → PieceFree (else_code test first second)
+else_free : (test : List OpCode) (first second : Piece) → Free test → PieceFree first → PieceFree second →
+    PieceFree (else_code test first second)
 else_free test first second t f g at r h =
     let a = first (at + length test + 1) r h in
-    free_append test _ t (tt, free_append a _ (f (at + length test + 1) r h) (tt, g (at + length test + 1 + length a + 1) (r + rests_in a) (h + loops_in a)))
+    free_append test _ t (
+      tt,
+      free_append a _ (f (at + length test + 1) r h)
+          (tt, g (at + length test + 1 + length a + 1) (r + rests_in a) (h + loops_in a)),
+    )
 
 loop_free : (test : List OpCode) (k : ℕ) (body : Piece) → Free test → PieceFree body → PieceFree (each_code test k body)
 loop_free test k body t f at r h =
     let b = body (at + length test + 1 + 1) r (h + 1) in
-    free_append test _ t (tt, (tt, free_append b (op.JumpBack (at + length test + 1) ∷ []) (f (at + length test + 1 + 1) r (h + 1)) (tt, tt)))
+    free_append test _ t
+    (tt, (tt, free_append b (op.JumpBack (at + length test + 1) ∷ []) (f (at + length test + 1 + 1) r (h + 1)) (tt, tt)))
 
 module _ (p : Protocol) (names : List Name) where
   -- ---- expressions
@@ -71,7 +79,8 @@ module _ (p : Protocol) (names : List Name) where
   abbrev ExprPart : Type 0
   ExprPart = (e : Expr) × ExprFree e
 
-  by_expr : (y : Expr-F ExprPart) → Free (expr_step p names (map-Expr Expr (List OpCode) (expr_code p names) (map-Expr ExprPart Expr (λ a. a.0) y)))
+  by_expr : (y : Expr-F ExprPart) →
+      Free (expr_step p names (map-Expr Expr (List OpCode) (expr_code p names) (map-Expr ExprPart Expr (λ a. a.0) y)))
   by_expr (Expr-F.Number n) = (tt, tt)
   by_expr Expr-F.True = (tt, tt)
   by_expr Expr-F.False = (tt, tt)
@@ -86,7 +95,8 @@ module _ (p : Protocol) (names : List Name) where
   by_expr (Expr-F.Two o a b) =
       free_append (expr_code p names a.0) _ a.1 (free_append (expr_code p names b.0) (op.Two o ∷ []) b.1 (tt, tt))
 
-  expr_roll : (l : Expr-F Expr) → expr_code p names (roll-Expr l) ≡ expr_step p names (map-Expr Expr (List OpCode) (expr_code p names) l)
+  expr_roll : (l : Expr-F Expr) → expr_code p names (roll-Expr l)
+      ≡ expr_step p names (map-Expr Expr (List OpCode) (expr_code p names) l)
   unfolding expr_code
   expr_roll l = fold-roll-Expr (List OpCode) (expr_step p names) l
 
@@ -124,10 +134,13 @@ module _ (p : Protocol) (names : List Name) where
   body_free : (ss : List StmtPart) → PieceFree (in_order (map (stmt_code p names) (map (λ s. s.0) ss)))
   body_free ss = in_order_free (map (stmt_code p names) (map (λ s. s.0) ss)) (parts_free ss)
 
-  by_layer : (y : Do-F DoPart StmtPart) → PieceFree (stmt_step p names (map-Do Do Stmt Piece Piece (do_code p names) (stmt_code p names) (whole_of y)))
-  by_layer (Do-F.Assign name e) at r h = free_append (expr_code p names e) _ (expr_free e) (free_put (slot_of names name) (info_number p name))
+  by_layer : (y : Do-F DoPart StmtPart) →
+      PieceFree (stmt_step p names (map-Do Do Stmt Piece Piece (do_code p names) (stmt_code p names) (whole_of y)))
+  by_layer (Do-F.Assign name e) at r h = free_append (expr_code p names e) _ (expr_free e)
+      (free_put (slot_of names name) (info_number p name))
   by_layer (Do-F.If e xs None) at r h = then_free (expr_code p names e) _ (expr_free e) (body_free xs) at r h
-  by_layer (Do-F.If e xs (Some ys)) at r h = else_free (expr_code p names e) _ _ (expr_free e) (body_free xs) (body_free ys) at r h
+  by_layer (Do-F.If e xs (Some ys)) at r h = else_free (expr_code p names e) _ _ (expr_free e) (body_free xs)
+      (body_free ys) at r h
   by_layer (Do-F.Send to name args) at r h =
       free_append (expr_code p names to) _ (expr_free to) (free_append (all_code p names args) _ (all_free args) (tt, tt))
   by_layer (Do-F.SendAll to name args) at r h =
@@ -136,14 +149,16 @@ module _ (p : Protocol) (names : List Name) where
   by_layer (Do-F.SetState name args) at r h = free_append (all_code p names args) _ (all_free args) (tt, tt)
   by_layer (Do-F.Suspend label name args passed) at r h = free_append (all_code p names args) _ (all_free args) (tt, tt)
   by_layer (Do-F.Resume name) at r h = (tt, tt)
-  by_layer (Do-F.ForEach x e xs) at r h = loop_free (expr_code p names e) (unwrap_or (slot_of names x) 0) _ (expr_free e) (body_free xs) at r h
+  by_layer (Do-F.ForEach x e xs) at r h = loop_free (expr_code p names e) (unwrap_or (slot_of names x) 0) _ (expr_free e)
+      (body_free xs) at r h
   by_layer (Do-F.Each x set xs) at r h = tt
   by_layer Do-F.Install at r h = (tt, tt)
   by_layer Do-F.Enqueue at r h = (tt, tt)
   by_layer Do-F.WakeUp at r h = (tt, tt)
   by_layer (Do-F.Error name) at r h = (tt, tt)
 
-  do_roll : (l : Do-F Do Stmt) → do_code p names (roll-Do l) ≡ stmt_step p names (map-Do Do Stmt Piece Piece (do_code p names) (stmt_code p names) l)
+  do_roll : (l : Do-F Do Stmt) → do_code p names (roll-Do l)
+      ≡ stmt_step p names (map-Do Do Stmt Piece Piece (do_code p names) (stmt_code p names) l)
   unfolding do_code stmt_code
   do_roll l = fold-roll-Do Piece Piece (stmt_step p names) (λ s. s.what) l
 
@@ -158,7 +173,8 @@ module _ (p : Protocol) (names : List Name) where
   stmt_level y = subst PieceFree (sym (stmt_out (roll-Stmt (map-Stmt DoPart StmtPart Do Stmt (λ d. d.0) (λ s. s.0) y)))) y.what.1
 
   stmt_free : (s : Stmt) → StmtFree s
-  stmt_free = ind-Stmt DoFree StmtFree (λ x y is. subst (λ z. DoFree (roll-Do z)) is (do_level y)) (λ x y is. subst (λ z. StmtFree (roll-Stmt z)) is (stmt_level y))
+  stmt_free = ind-Stmt DoFree StmtFree (λ x y is. subst (λ z. DoFree (roll-Do z)) is (do_level y))
+      (λ x y is. subst (λ z. StmtFree (roll-Stmt z)) is (stmt_level y))
 
   stmts_free : (stmts : List Stmt) → Each PieceFree (map (stmt_code p names) stmts)
   stmts_free [] = tt
@@ -172,7 +188,8 @@ module _ (p : Protocol) (names : List Name) where
 entry_free : (p : Protocol) (d : Entry) → PieceFree (entry_code p d)
 entry_free p d at r h =
     let names = names_in d.state d.handler in
-    free_append (code_of p names d.handler.body at r (length names)) (op.Done ∷ []) (code_free p names d.handler.body at r (length names)) (tt, tt)
+    free_append (code_of p names d.handler.body at r (length names)) (op.Done ∷ [])
+    (code_free p names d.handler.body at r (length names)) (tt, tt)
 
 entries_free : (p : Protocol) (entries : List Entry) → Each PieceFree (map (entry_code p) entries)
 entries_free p [] = tt
@@ -180,5 +197,6 @@ entries_free p (d ∷ entries) = (entry_free p d, entries_free p entries)
 
 pub code_has_no_nodes : CodeHasNoNodes
 code_has_no_nodes p code is at x has =
-    let all : Free (in_order (map (entry_code p) (entries_of p)) 0 0 0) = in_order_free (map (entry_code p) (entries_of p)) (entries_free p (entries_of p)) 0 0 0 in
+    let all : Free (in_order (map (entry_code p) (entries_of p)) 0 0 0) =
+    in_order_free (map (entry_code p) (entries_of p)) (entries_free p (entries_of p)) 0 0 0 in
     each_get NamesNoNode code.ops at (op.Const x) (subst Free (sym is.ops) all) has

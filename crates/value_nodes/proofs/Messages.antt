@@ -33,14 +33,17 @@ taken_within n on.RdFault m h = h
 taken_within n on.WrFault m h = h
 taken_within n (on.Named k) m h = h
 
-slots_within : (n : ℕ) (p : Protocol) (door : Door) (cell : Cell) (m : Message) → 0 < n → IsCellWithin n cell → IsMessageWithin n m → AreWithin n (slots_at p door cell.args m)
+slots_within : (n : ℕ) (p : Protocol) (door : Door) (cell : Cell) (m : Message) → 0 < n → IsCellWithin n cell →
+    IsMessageWithin n m → AreWithin n (slots_at p door cell.args m)
 slots_within n p door cell m some c h =
     let zeros = zeros_of (locals_of p door) in
     let taken = args_taken door.on m in
     let vars = v.Node m.from ∷ (cell.args ++ (taken ++ zeros)) in
-    let first : AreWithin n (taken ++ zeros) = each_append (IsValueWithin n) taken zeros (taken_within n door.on m h.1) (zeros_within n (locals_of p door) some) in
+    let first : AreWithin n (taken ++ zeros) = each_append (IsValueWithin n) taken zeros (taken_within n door.on m h.1)
+    (zeros_within n (locals_of p door) some) in
     let both : AreWithin n (cell.args ++ (taken ++ zeros)) = each_append (IsValueWithin n) cell.args (taken ++ zeros) c.0 first in
-    each_append (IsValueWithin n) vars (replicate (door.slots - length vars) (v.Int 0)) (h.0, both) (each_replicate (IsValueWithin n) (door.slots - length vars) (v.Int 0) tt)
+    each_append (IsValueWithin n) vars (replicate (door.slots - length vars) (v.Int 0)) (h.0, both)
+    (each_replicate (IsValueWithin n) (door.slots - length vars) (v.Int 0) tt)
 
 pub messages_stay_within : MessagesStayWithin
 messages_stay_within n p code me home block tag words cell chain m e is low high cells chains message enters =

@@ -1,5 +1,6 @@
 -- Values within a bound, and lists of them.
-use Rattle.std.proofs.Common.{◌≡◌, ℕ, zero, suc, ◌+◌, ◌<◌, Bool, true, false, List, [], ◌∷◌, ◌++◌, Option, Some, inl, inr, refl, sym, subst, arith, take, drop, reverse}
+use Rattle.std.proofs.Common.{◌≡◌, ℕ, zero, suc, ◌+◌, ◌<◌, Bool, true, false, List, [], ◌∷◌, ◌++◌, Option, Some, inl, inr, refl}
+use Rattle.std.proofs.Common.{sym, subst, arith, take, drop, reverse}
 use Rattle.std.specs.Prelude.{◌⊎◌, if◌then◌else◌, map, slice_get, slice_set, replicate}
 use Rattle.std.proofs.lemmas.List.{reverse-append}
 use Rattle.tw_base.specs.Lists.{Each}
@@ -81,7 +82,8 @@ unfolding empty
 empty_within n k h = absurd (none_of 8 k h)
 
 -- the members of a set, counted from j
-members_within : (n j m : ℕ) (s : List Bool) → ((k : ℕ) → has s k ≡ true → j + k < n) → Each (λ k. k < n) (members_from j (take m s))
+members_within : (n j m : ℕ) (s : List Bool) → ((k : ℕ) → has s k ≡ true → j + k < n) →
+    Each (λ k. k < n) (members_from j (take m s))
 unfolding has
 members_within n j zero s h = tt
 members_within n j (suc m) [] h = tt
@@ -177,6 +179,7 @@ live_within n live k (x ∷ xs) h = (by_test (live k) h.0, live_within n live (k
 
 -- ---- sends
 
-pub outs_within : (n number : ℕ) (args : List Value) (payload : Option Data) (nodes : List ℕ) → AreWithin n args → Each (λ k. k < n) nodes → Each (IsSendWithin n) (map (out_to number args payload) nodes)
+pub outs_within : (n number : ℕ) (args : List Value) (payload : Option Data) (nodes : List ℕ) → AreWithin n args →
+    Each (λ k. k < n) nodes → Each (IsSendWithin n) (map (out_to number args payload) nodes)
 outs_within n number args payload [] a h = tt
 outs_within n number args payload (k ∷ nodes) a h = ((h.0, a), outs_within n number args payload nodes a h.1)

@@ -76,7 +76,8 @@ IsMessageWithin n m = (m.from < n) × AreWithin n (take m.arg_count m.args)
 -- holds nodes below n alone.
 abbrev pub MessagesStayWithin : Type 0
 MessagesStayWithin =
-    (n : ℕ) (p : Protocol) (code : Code) (me home block : ℕ) (tag : Tag) (words : Data) (cell : Cell) (chain : List Saved) (m : Message) (e : Stopped) →
+    (n : ℕ) (p : Protocol) (code : Code) (me home block : ℕ) (tag : Tag) (words : Data) (cell : Cell) (chain : List Saved)
+    (m : Message) (e : Stopped) →
     IsCode p code →
     me < n →
     home < n →

@@ -1,4 +1,4 @@
-use Rattle.std.proofs.Common.{◌≡◌, ◌≤◌, ◌++◌, drop}
+use Rattle.std.proofs.Common.{◌≡◌, ◌++◌, drop}
 use Rattle.blizzard_guard.specs.Guarding.{places_from}
 use Rattle.blizzard_guard.proofs.guarding.places_of.Given as goal
 

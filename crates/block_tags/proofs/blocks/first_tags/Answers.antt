@@ -9,5 +9,6 @@ returns-clause-long c = c.loop-block.invariant.0
 
 pub returns-clause-tags : goal.returns-clause-tags
 returns-clause-tags c =
-    fill_by_all _ _ _ Invalid (length-take-le _ _ (omega (arith, c.blocks-block-end.ensures.limits.blocks, c.loop-block.invariant.0)))
+    fill_by_all _ _ _ Invalid
+    (length-take-le _ _ (omega (arith, c.blocks-block-end.ensures.limits.blocks, c.loop-block.invariant.0)))
     (λ k lt. get_or-take _ _ k Invalid lt ∙ c.loop-block.invariant.1 k (omega arith))

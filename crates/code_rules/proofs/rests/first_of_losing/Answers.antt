@@ -8,10 +8,14 @@ use Rattle.code_rules.proofs.rests.first_of_losing.Goals as goal
 pub loop-number-preserved : goal.loop-number-preserved
 loop-number-preserved c =
     let code = c.args.code.now in
-    subst (λ o. IsLeast (RestBefore code (λ number rest. LosesSlot code rest) (c.loop-number.number + 1)) o) (sym c.lesser-least.ensures)
-    (rest_more code (λ number rest. LosesSlot code rest) c.loop-number.number c.rest_at-rest.result c.loop-number.least c.place_unless.result
+    subst (λ o. IsLeast (RestBefore code (λ number rest. LosesSlot code rest) (c.loop-number.number + 1)) o)
+    (sym c.lesser-least.ensures)
+    (rest_more code (λ number rest. LosesSlot code rest) c.loop-number.number c.rest_at-rest.result c.loop-number.least
+    c.place_unless.result
     c.rest_at-rest.ensures c.loop-number.invariant
-    (losing_here code c.args.table.now c.loop-number.number c.rest_at-rest.result c.keeps-kept.result c.place_unless.result c.requires c.keeps-kept.ensures c.place_unless.ensures))
+    (losing_here code c.args.table.now c.loop-number.number c.rest_at-rest.result c.keeps-kept.result c.place_unless.result
+    c.requires c.keeps-kept.ensures c.place_unless.ensures))
 
 pub returns : goal.returns
-returns c = rest_all c.args.code.now (λ number rest. LosesSlot c.args.code.now rest) c.loop-number.number c.loop-number.least (omega (arith, c.len-number-end.ensures)) c.loop-number.invariant
+returns c = rest_all c.args.code.now (λ number rest. LosesSlot c.args.code.now rest) c.loop-number.number c.loop-number.least
+    (omega (arith, c.len-number-end.ensures)) c.loop-number.invariant

@@ -11,7 +11,8 @@ loop-number-preserved c =
     let code = c.args.code.now in
     let p = c.args.p.now in
     subst (λ f. FirstBelow code p (c.loop-number.number + 1) f) (sym c.sooner-first.ensures)
-    (first_more code p c.loop-number.number c.rule_of-rule.result c.loop-number.first c.in_ok-place.place c.rule_of-rule.ensures c.in_ok-place.ensures c.loop-number.invariant)
+    (first_more code p c.loop-number.number c.rule_of-rule.result c.loop-number.first c.in_ok-place.place
+    c.rule_of-rule.ensures c.in_ok-place.ensures c.loop-number.invariant)
 
 pub returns : goal.returns
 returns c =

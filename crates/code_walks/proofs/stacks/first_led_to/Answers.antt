@@ -10,7 +10,8 @@ loop-at-preserved c =
     let part = c.args.part in
     let one = subst (λ o. IsLeast (LeadsInside code part o) c.led_place.result) c.op_at.ensures c.led_place.ensures in
     subst (λ o. IsLeast (LedBefore code part (c.loop-at.at + 1)) o) (sym c.lesser-least.ensures)
-    (led_more code part c.loop-at.at c.loop-at.least c.led_place.result c.loop-at.auto.at c.loop-at-test.true c.loop-at.invariant one)
+    (led_more code part c.loop-at.at c.loop-at.least c.led_place.result c.loop-at.auto.at c.loop-at-test.true
+    c.loop-at.invariant one)
 
 pub returns : goal.returns
 returns c = led_all c.args.p.now c.args.code.now c.args.part c.loop-at.at c.loop-at.least c.loop-at-test.false c.loop-at.invariant

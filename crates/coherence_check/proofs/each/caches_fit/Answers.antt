@@ -9,5 +9,7 @@ use Rattle.coherence_check.proofs.each.caches_fit.Goals as goal
 
 pub loop-number-preserved : goal.loop-number-preserved
 loop-number-preserved c =
-    let P : ℕ → Type 0 = λ i. i ≢ home_of (setup_of c.args.g.now) c.args.block → CacheAt c.args.directory (which c.args.part) (setup_of c.args.g.now) (world_of c.args.g.now) c.args.block i in
-    below_more P c.loop-number.number c.loop-number.invariant (subst P (some_is _ _ _ _ c.new.ensures c.unwrap-node.ensures) (c.cache_or_home.ensures.0 (cc)))
+    let P : ℕ → Type 0 = λ i. i ≢ home_of (setup_of c.args.g.now) c.args.block →
+    CacheAt c.args.directory (which c.args.part) (setup_of c.args.g.now) (world_of c.args.g.now) c.args.block i in
+    below_more P c.loop-number.number c.loop-number.invariant
+    (subst P (some_is _ _ _ _ c.new.ensures c.unwrap-node.ensures) (c.cache_or_home.ensures.0 (cc)))

@@ -6,4 +6,5 @@ use Rattle.coherence_check.specs.Nodes.{CacheAt}
 use Rattle.coherence_check.proofs.each.caches_fit.Given as goal
 
 abbrev pub invariant-loop-number : goal.invariant-loop-number
-invariant-loop-number l = (i : ℕ) → i < l.number → i ≢ home_of (setup_of l.g) l.block → CacheAt l.directory (which l.part) (setup_of l.g) (world_of l.g) l.block i
+invariant-loop-number l = (i : ℕ) → i < l.number → i ≢ home_of (setup_of l.g) l.block →
+    CacheAt l.directory (which l.part) (setup_of l.g) (world_of l.g) l.block i

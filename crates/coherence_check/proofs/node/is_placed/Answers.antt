@@ -5,7 +5,9 @@ use Rattle.coherence_check.specs.Under.{IsPlacedUnder}
 use Rattle.coherence_check.proofs.node.is_placed.Goals as goal
 
 pub returns-in-Stache : goal.returns-in-Stache
-returns-in-Stache c = subst (λ (d : Directory). Decides c.is_placed_of_stache.result (IsPlacedUnder d c.args.here.now)) (sym c.in-Stache.is) c.is_placed_of_stache.ensures
+returns-in-Stache c = subst (λ (d : Directory). Decides c.is_placed_of_stache.result (IsPlacedUnder d c.args.here.now))
+    (sym c.in-Stache.is) c.is_placed_of_stache.ensures
 
 pub returns-in-StacheD : goal.returns-in-StacheD
-returns-in-StacheD c = subst (λ (d : Directory). Decides c.is_placed_of_d.result (IsPlacedUnder d c.args.here.now)) (sym c.in-StacheD.is) c.is_placed_of_d.ensures
+returns-in-StacheD c = subst (λ (d : Directory). Decides c.is_placed_of_d.result (IsPlacedUnder d c.args.here.now))
+    (sym c.in-StacheD.is) c.is_placed_of_d.ensures

@@ -8,5 +8,7 @@ use Rattle.coherence_check.proofs.node.sends_none_but_home.Goals as goal
 
 pub loop-number-preserved : goal.loop-number-preserved
 loop-number-preserved c =
-    let P : ℕ → Type 0 = λ i. i ≢ home_of (setup_of c.args.g.now) c.args.block → SendsNone (setup_of c.args.g.now) (world_of c.args.g.now) c.args.block c.args.from i in
-    below_more P c.loop-number.number c.loop-number.invariant (subst P (some_is _ _ _ _ c.new.ensures c.unwrap-node.ensures) (c.sends_none.ensures.0 (cc)))
+    let P : ℕ → Type 0 = λ i. i ≢ home_of (setup_of c.args.g.now) c.args.block →
+    SendsNone (setup_of c.args.g.now) (world_of c.args.g.now) c.args.block c.args.from i in
+    below_more P c.loop-number.number c.loop-number.invariant
+    (subst P (some_is _ _ _ _ c.new.ensures c.unwrap-node.ensures) (c.sends_none.ensures.0 (cc)))

@@ -5,4 +5,5 @@ use Rattle.coherence_check.specs.Nodes.{SendsNone}
 use Rattle.coherence_check.proofs.node.sends_none_but_home.Given as goal
 
 abbrev pub invariant-loop-number : goal.invariant-loop-number
-invariant-loop-number l = (i : ℕ) → i < l.number → i ≢ home_of (setup_of l.g) l.block → SendsNone (setup_of l.g) (world_of l.g) l.block l.from i
+invariant-loop-number l = (i : ℕ) → i < l.number → i ≢ home_of (setup_of l.g) l.block →
+    SendsNone (setup_of l.g) (world_of l.g) l.block l.from i

@@ -11,7 +11,8 @@ pub returns-in-HomeAcks : goal.returns-in-HomeAcks
 returns-in-HomeAcks c =
     let s = setup_of c.args.g.now in
     let w = world_of c.args.g.now in
-    let collects : (home_under c.args.directory s w c.args.block).state ≡ HomeAcks = sym (ap (λ (x : Here). x.state) c.home_at-own.ensures) ∙ ap state_in c.in-HomeAcks.is in
+    let collects : (home_under c.args.directory s w c.args.block).state ≡ HomeAcks =
+    sym (ap (λ (x : Here). x.state) c.home_at-own.ensures) ∙ ap state_in c.in-HomeAcks.is in
     counts_so _ c.from.result c.owed.result _ _ _ (Decides-eqb c.from.result c.owed.result) collects
     (c.from.ensures ∙ ap (λ (x : Here). x.acks) c.home_at-own.ensures)
     (c.owed.ensures ∙ sym (owed_alike c.args.directory s w c.args.block s.shape.nodes))

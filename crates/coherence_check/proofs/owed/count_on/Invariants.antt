@@ -7,4 +7,5 @@ use Rattle.coherence_check.specs.Said.{said_to}
 use Rattle.coherence_check.proofs.owed.count_on.Given as goal
 
 abbrev pub invariant-loop-k : goal.invariant-loop-k
-invariant-loop-k l = (l.count ≡ how_many (owing l.inv) (said_to l.block l.k ((world_of l.g).wires l.from l.to One))) × (l.count ≤ l.k)
+invariant-loop-k l = (l.count ≡ how_many (owing l.inv) (said_to l.block l.k ((world_of l.g).wires l.from l.to One)))
+    × (l.count ≤ l.k)

@@ -13,4 +13,5 @@ returns-then-not-is_of-clause-value c =
 pub returns-clause-value : goal.returns-clause-value
 returns-clause-value c =
     let e : of_block c.args.block (seen_message c.args.m.now) ≡ true = cc in
-    c.note_owed.ensures.value ∙ ap (owing c.args.inv) c.note_of.ensures ∙ sym (owed_one (owing c.args.inv) c.args.block (seen_message c.args.m.now) e)
+    c.note_owed.ensures.value ∙ ap (owing c.args.inv) c.note_of.ensures
+    ∙ sym (owed_one (owing c.args.inv) c.args.block (seen_message c.args.m.now) e)

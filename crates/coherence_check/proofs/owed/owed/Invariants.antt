@@ -6,4 +6,5 @@ use Rattle.dsm_model.specs.Globals.{setup_of, world_of}
 use Rattle.coherence_check.proofs.owed.owed.Given as goal
 
 abbrev pub invariant-loop-number : goal.invariant-loop-number
-invariant-loop-number l = (l.sum ≡ sum_below l.number (λ j. owes (spots_seen (setup_of l.g) (world_of l.g) l.block j))) × (l.sum ≤ l.number * 2 ^ 33)
+invariant-loop-number l = (l.sum ≡ sum_below l.number (λ j. owes (spots_seen (setup_of l.g) (world_of l.g) l.block j)))
+    × (l.sum ≤ l.number * 2 ^ 33)

@@ -14,7 +14,12 @@ returns-clause-value c =
     let w = world_of c.args.g.now in
     let h = home_of (setup_of c.args.g.now) c.args.block in
     let down : c.count_on.result ≡ how_many is_inv (notes c.args.block (map seen_message (w.wires h c.args.node One))) =
-    c.count_on.ensures.value ∙ ap (λ (k : ℕ). how_many is_inv (notes c.args.block (map seen_message (w.wires k c.args.node One)))) c.home-own.ensures.value in
+    c.count_on.ensures.value
+    ∙ ap (λ (k : ℕ). how_many is_inv (notes c.args.block (map seen_message (w.wires k c.args.node One))))
+    c.home-own.ensures.value in
     let up : c.count_on-2.result ≡ how_many is_ack (notes c.args.block (map seen_message (w.wires c.args.node h One))) =
-    c.count_on-2.ensures.value ∙ ap (λ (k : ℕ). how_many is_ack (notes c.args.block (map seen_message (w.wires c.args.node k One)))) c.home-own.ensures.value in
-    ap (λ (n : ℕ). n + c.count_on-2.result) down ∙ ap (λ (n : ℕ). how_many is_inv (notes c.args.block (map seen_message (w.wires h c.args.node One))) + n) up
+    c.count_on-2.ensures.value
+    ∙ ap (λ (k : ℕ). how_many is_ack (notes c.args.block (map seen_message (w.wires c.args.node k One))))
+    c.home-own.ensures.value in
+    ap (λ (n : ℕ). n + c.count_on-2.result) down
+    ∙ ap (λ (n : ℕ). how_many is_inv (notes c.args.block (map seen_message (w.wires h c.args.node One))) + n) up

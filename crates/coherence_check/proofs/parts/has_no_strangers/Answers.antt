@@ -12,5 +12,7 @@ returns c =
     let r = c.are_none_from.result in
     let b = c.args.block in
     let w = world_of c.args.g.now in
-    subst (λ (n : ℕ). Decides r ((j : ℕ) → n ≤ j → kept_notes b j (map seen_waiting (w.locals (home_of (setup_of c.args.g.now) b)).deferred) ≡ [])) c.nodes.ensures.value
-    (subst (λ (ws : List Waiting). Decides r ((j : ℕ) → c.nodes.result ≤ j → kept_notes b j (map seen_waiting ws) ≡ [])) (c.deferred.ensures ∙ ap (λ (k : ℕ). (w.locals k).deferred) c.home.ensures.value) c.are_none_from.ensures)
+    subst (λ (n : ℕ). Decides r ((j : ℕ) → n ≤ j → kept_notes b j
+    (map seen_waiting (w.locals (home_of (setup_of c.args.g.now) b)).deferred) ≡ [])) c.nodes.ensures.value
+    (subst (λ (ws : List Waiting). Decides r ((j : ℕ) → c.nodes.result ≤ j → kept_notes b j (map seen_waiting ws) ≡ []))
+    (c.deferred.ensures ∙ ap (λ (k : ℕ). (w.locals k).deferred) c.home.ensures.value) c.are_none_from.ensures)

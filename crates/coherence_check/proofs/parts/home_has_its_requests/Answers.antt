@@ -12,5 +12,7 @@ returns c =
     let s = setup_of c.args.g.now in
     let w = world_of c.args.g.now in
     let b = c.args.block in
-    subst (λ (z : Here). Decides c.own_requests.result (OwnRequests z (spots_under c.args.directory s w b (home_of s b)))) c.home_at-own.ensures
-    (subst (λ (h : ℕ). Decides c.own_requests.result (OwnRequests (here_in c.home_at-own.result) (spots_under c.args.directory s w b h))) c.home.ensures.value (c.own_requests.ensures _ _ _ c.spot_at.ensures))
+    subst (λ (z : Here). Decides c.own_requests.result (OwnRequests z (spots_under c.args.directory s w b (home_of s b))))
+    c.home_at-own.ensures
+    (subst (λ (h : ℕ). Decides c.own_requests.result (OwnRequests (here_in c.home_at-own.result)
+    (spots_under c.args.directory s w b h))) c.home.ensures.value (c.own_requests.ensures _ _ _ c.spot_at.ensures))

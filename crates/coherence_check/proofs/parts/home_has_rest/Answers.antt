@@ -12,6 +12,8 @@ returns c =
     let r = c.rest_fits.result in
     let own = c.home_at-own.ensures in
     let x : Here = home_under c.args.directory (setup_of c.args.g.now) (world_of c.args.g.now) c.args.block in
-    subst (λ (n : ℕ). Decides r (RestFitsUnder c.args.directory n (home_of (setup_of c.args.g.now) c.args.block) x.state x.rest)) c.nodes.ensures.value
+    subst (λ (n : ℕ). Decides r (RestFitsUnder c.args.directory n
+    (home_of (setup_of c.args.g.now) c.args.block) x.state x.rest)) c.nodes.ensures.value
     (subst (λ (h : ℕ). Decides r (RestFitsUnder c.args.directory c.nodes.result h x.state x.rest)) c.home.ensures.value
-    (subst (λ (z : Here). Decides r (RestFitsUnder c.args.directory c.nodes.result c.home.result z.state z.rest)) own c.rest_fits.ensures))
+    (subst (λ (z : Here). Decides r (RestFitsUnder c.args.directory c.nodes.result c.home.result z.state z.rest)) own
+    c.rest_fits.ensures))

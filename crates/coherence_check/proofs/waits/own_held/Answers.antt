@@ -12,8 +12,10 @@ pub returns : goal.returns
 returns c = λ h i b l k.
     let x = c.args.x.now in
     let d = c.args.directory in
-    let held : IsCount c.held_home.result (held_home (l.blocks b).rest) = subst (λ (r : Rest). IsCount c.held_home.result (held_home r)) k.rest c.held_home.ensures in
+    let held : IsCount c.held_home.result (held_home (l.blocks b).rest) =
+    subst (λ (r : Rest). IsCount c.held_home.result (held_home r)) k.rest c.held_home.ensures in
     let at : Decides c.held_for.result (HeldUnder d (l.blocks b).state (l.blocks b).rest l.next b) =
     subst (λ (r : Rest). Decides c.held_for.result (HeldUnder d (l.blocks b).state r l.next b)) k.rest
-    (subst (λ (s : State). Decides c.held_for.result (HeldUnder d s (rest_in x.whose) l.next b)) k.state (c.held_for.ensures l b k.loads k.stores)) in
+    (subst (λ (s : State). Decides c.held_for.result (HeldUnder d s (rest_in x.whose) l.next b)) k.state
+    (c.held_for.ensures l b k.loads k.stores)) in
     implies_so _ _ _ _ _ k.own (waits_so _ _ _ _ _ _ _ (c.is_some.ensures _ held) k.blocked at c.waits.ensures) c.implies.ensures

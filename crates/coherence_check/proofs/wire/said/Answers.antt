@@ -7,11 +7,13 @@ use Rattle.coherence_check.proofs.Saying.{said_none, some_within}
 use Rattle.coherence_check.proofs.wire.said.Goals as goal
 
 pub loop-k-init : goal.loop-k-init
-loop-k-init c = subst (λ (ns : List Note). IsSummary c.words-count.result c.args.at_home c.new-summary.result ns) (sym (said_none c.args.block)) (c.new-summary.ensures c.words-count.result c.args.at_home)
+loop-k-init c = subst (λ (ns : List Note). IsSummary c.words-count.result c.args.at_home c.new-summary.result ns)
+    (sym (said_none c.args.block)) (c.new-summary.ensures c.words-count.result c.args.at_home)
 
 pub unwrap-m-requires : goal.unwrap-m-requires
 unwrap-m-requires c =
-    elim c.message.result as (λ o. option_copied o ≡ slice_get ((world_of c.args.g.now).wires c.args.from c.args.to c.args.chan) c.loop-k.k → IsSome o) [
+    elim c.message.result as (λ o. option_copied o ≡ slice_get
+    ((world_of c.args.g.now).wires c.args.from c.args.to c.args.chan) c.loop-k.k → IsSome o) [
       | Some x ↦ λ e. search rules
       | None ↦ λ e. absurd (some_within _ c.loop-k.k (omega arith) (sym e))
     ] c.message.ensures

@@ -8,4 +8,5 @@ use Rattle.coherence_reads.proofs.deferred.are_eligible.Goals as goal
 pub returns : goal.returns
 returns c =
     let ws = c.args.deferred.now in
-    subst (λ (r : Bool). Decides r (AllEligible c.args.block (map seen_waiting ws))) (sym c.all_eligible.ensures) (eligible c.args.block ws)
+    subst (λ (r : Bool). Decides r (AllEligible c.args.block (map seen_waiting ws))) (sym c.all_eligible.ensures)
+    (eligible c.args.block ws)

@@ -8,4 +8,5 @@ use Rattle.coherence_reads.proofs.deferred.are_none_from.Goals as goal
 pub returns : goal.returns
 returns c =
     let ws = c.args.deferred.now in
-    subst (λ (r : Bool). Decides r ((j : ℕ) → c.args.least ≤ j → kept_notes c.args.block j (map seen_waiting ws) ≡ [])) (sym c.all_none_from.ensures) (none_from c.args.block c.args.least ws)
+    subst (λ (r : Bool). Decides r ((j : ℕ) → c.args.least ≤ j → kept_notes c.args.block j (map seen_waiting ws) ≡ []))
+    (sym c.all_none_from.ensures) (none_from c.args.block c.args.least ws)

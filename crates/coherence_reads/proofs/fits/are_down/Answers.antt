@@ -7,4 +7,5 @@ use Rattle.coherence_reads.proofs.Sorts.{down_of_stache}
 use Rattle.coherence_reads.proofs.fits.are_down.Goals as goal
 
 pub returns-in-Stache : goal.returns-in-Stache
-returns-in-Stache c = λ w ws ns h. subst (λ (d : Directory). Decides c.both.result (Each (IsDownUnder d w) ns)) (sym c.in-Stache.is) (down_of_stache w ns _ _ _ h.downs h.shared c.both.ensures)
+returns-in-Stache c = λ w ws ns h. subst (λ (d : Directory). Decides c.both.result (Each (IsDownUnder d w) ns))
+    (sym c.in-Stache.is) (down_of_stache w ns _ _ _ h.downs h.shared c.both.ensures)

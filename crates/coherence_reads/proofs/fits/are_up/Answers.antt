@@ -7,4 +7,5 @@ use Rattle.coherence_reads.proofs.Sorts.{up_of_stache}
 use Rattle.coherence_reads.proofs.fits.are_up.Goals as goal
 
 pub returns-in-Stache : goal.returns-in-Stache
-returns-in-Stache c = λ w ws ns h. subst (λ (d : Directory). Decides c.both.result (Each (IsUpUnder d w) ns)) (sym c.in-Stache.is) (up_of_stache w ns _ _ _ h.ups h.shared c.both.ensures)
+returns-in-Stache c = λ w ws ns h. subst (λ (d : Directory). Decides c.both.result (Each (IsUpUnder d w) ns))
+    (sym c.in-Stache.is) (up_of_stache w ns _ _ _ h.ups h.shared c.both.ensures)

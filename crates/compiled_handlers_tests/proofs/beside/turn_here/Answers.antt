@@ -13,9 +13,12 @@ returns-clause-beside c =
     let side = c.args.side.now in
     let here : m.block ≡ was.here.block = c.in_ok-_ran.ensures.block in
     let there : IsBeside p code (record { cell = was.cell; blocks = was.blocks; conts = was.conts }) m.block side.cell side.here =
-    subst (λ (n : ℕ). IsBeside p code (record { cell = was.cell; blocks = was.blocks; conts = was.conts }) n side.cell side.here) (sym here) c.requires.beside in
+    subst (λ (n : ℕ). IsBeside p code (record { cell = was.cell; blocks = was.blocks; conts = was.conts }) n side.cell
+    side.here) (sym here) c.requires.beside in
     let stays = c.in_ok-_ran.ensures.beside side.cell side.here there in
     let goes : IsBeside p code (record { cell = now.cell; blocks = now.blocks; conts = now.conts }) m.block side.cell side.here =
     c.go_on.ensures.beside p m.block side.cell side.here stays.beside in
-    let same : now.here.block ≡ m.block = c.in_ok-go_on.ensures.block ∙ ap (λ (h : Here). h.block) c.in_ok-_ran.ensures.same ∙ sym here in
-    subst (λ (n : ℕ). IsBeside p code (record { cell = now.cell; blocks = now.blocks; conts = now.conts }) n side.cell side.here) (sym same) goes
+    let same : now.here.block ≡ m.block = c.in_ok-go_on.ensures.block ∙ ap (λ (h : Here). h.block) c.in_ok-_ran.ensures.same
+    ∙ sym here in
+    subst (λ (n : ℕ). IsBeside p code (record { cell = now.cell; blocks = now.blocks; conts = now.conts }) n side.cell
+    side.here) (sym same) goes

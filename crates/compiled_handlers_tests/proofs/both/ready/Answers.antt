@@ -15,4 +15,5 @@ returns-clause-alike c = λ p code a.
     }
 
 pub returns-clause-beside : goal.returns-clause-beside
-returns-clause-beside c = λ p code block other there b. room_beside p code _ other _ _ _ block there (λ k. ap (λ s. record_at s k) c.reserve.ensures.records) b
+returns-clause-beside c = λ p code block other there b. room_beside p code _ other _ _ _ block there
+    (λ k. ap (λ s. record_at s k) c.reserve.ensures.records) b

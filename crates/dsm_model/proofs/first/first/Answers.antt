@@ -26,4 +26,5 @@ returns-clause-same c =
     }
 
 pub returns-clause-sound : goal.returns-clause-sound
-returns-clause-sound c = first_sound c.args.setup.now c.args.me _ c.shape-shape.ensures.valid c.in_ok-first_blocks.ensures c.new-2.ensures refl
+returns-clause-sound c = first_sound c.args.setup.now c.args.me _ c.shape-shape.ensures.valid c.in_ok-first_blocks.ensures
+    c.new-2.ensures refl

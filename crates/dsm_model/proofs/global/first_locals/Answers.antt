@@ -5,7 +5,11 @@ use Rattle.dsm_model.proofs.Starting.{locals_push, none_sound, sound_push}
 use Rattle.dsm_model.proofs.global.first_locals.Goals as goal
 
 pub loop-number-init : goal.loop-number-init
-loop-number-init c = record { count = ap length c.new-locals.ensures.items; sound = rw c.new-locals.ensures.items (none_sound c.args.setup.now); each = rw c.new-locals.ensures.items (λ i. refl) }
+loop-number-init c = record {
+  count = ap length c.new-locals.ensures.items;
+  sound = rw c.new-locals.ensures.items (none_sound c.args.setup.now);
+  each = rw c.new-locals.ensures.items (λ i. refl);
+}
 
 pub loop-number-preserved : goal.loop-number-preserved
 loop-number-preserved c =

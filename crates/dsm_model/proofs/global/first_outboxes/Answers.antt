@@ -15,7 +15,12 @@ loop-made-preserved c =
     let outboxes = c.loop-made.outboxes.items in
     let outbox = c.in_ok-new.field-0 in
     record {
-      count = omega (arith, ap length c.in_ok-push.ensures.items, length-append outboxes (outbox ∷ []), c.loop-made.invariant.count);
+      count = omega (
+        arith,
+        ap length c.in_ok-push.ensures.items,
+        length-append outboxes (outbox ∷ []),
+        c.loop-made.invariant.count,
+      );
       room = rw c.in_ok-push.ensures.items (room_push outboxes outbox c.loop-made.invariant.room c.in_ok-new.ensures.room);
       empty = rw c.in_ok-push.ensures.items (wires_push outboxes outbox c.loop-made.invariant.empty c.in_ok-new.ensures.empty);
       next = rw c.in_ok-push.ensures.items (nexts_push outboxes outbox c.loop-made.invariant.next c.in_ok-new.ensures.first);

@@ -27,6 +27,8 @@ returns-clause-made c =
     made_same s me _ l _ _ c.complete.new.l _ c.complete.result
     (c.complete.ensures.node ∙ ap (λ (x : Node). done_node x mode.Running (finished s me x.cpu value)) w.2)
     (c.complete.ensures.made ∙ ap made w.2)
-    (faa_made s me l c.args.address value c.args.added sum c.place-block.result.0 c.place-block.result.1 w.0 c.requires.me c.requires.may c.requires.sound c.requires.asks
-    c.place-block.ensures.block c.place-block.ensures.offset c.place-block.ensures.within w.1 (subst (λ (x : Here). permits x.tag true ≡ true) same allowed)
+    (faa_made s me l c.args.address value c.args.added sum c.place-block.result.0 c.place-block.result.1 w.0 c.requires.me
+    c.requires.may c.requires.sound c.requires.asks
+    c.place-block.ensures.block c.place-block.ensures.offset c.place-block.ensures.within w.1
+    (subst (λ (x : Here). permits x.tag true ≡ true) same allowed)
     (c.word-value.ensures ∙ ap (λ (x : Here). slice_index x.words c.place-block.result.1) same) refl)

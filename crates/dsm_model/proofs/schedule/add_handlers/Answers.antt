@@ -19,4 +19,5 @@ returns-then-has_eligible c =
     let g = world_of c.args.g.now in
     let may : may_handle s (g.locals c.args.node) ≡ true = search rules in
     let some : has_eligible (g.locals c.args.node).deferred ≡ true = search rules in
-    subst (λ (es : List Event). OnOk c.push.result (c.push.new.self ≡ es)) (one_redelivered s g c.args.node s.shape.nodes c.args.some.now c.requires may some) c.push.ensures.ok
+    subst (λ (es : List Event). OnOk c.push.result (c.push.new.self ≡ es))
+    (one_redelivered s g c.args.node s.shape.nodes c.args.some.now c.requires may some) c.push.ensures.ok

@@ -16,4 +16,5 @@ pub step-requires : goal.step-requires
 step-requires c =
     let s = setup_of c.args.g.now in
     let g = world_of c.args.g.now in
-    chosen_enabled s g c.args.stride c.args.turn c.items.result.now (all_events s.shape.nodes) c.in-Some.e (c.items.ensures ∙ c.in_ok-some.ensures) (sym c.in-Some.ensures)
+    chosen_enabled s g c.args.stride c.args.turn c.items.result.now (all_events s.shape.nodes) c.in-Some.e
+    (c.items.ensures ∙ c.in_ok-some.ensures) (sym c.in-Some.ensures)

@@ -6,4 +6,5 @@ use Rattle.dsm_model.specs.Globals.{setup_of, world_of}
 use Rattle.dsm_model.proofs.schedule.enabled_events.Given as goal
 
 abbrev pub invariant-loop-number : goal.invariant-loop-number
-invariant-loop-number l = l.some ≡ filter (is_enabled (setup_of l.g) (world_of l.g)) (events_below (setup_of l.g).shape.nodes l.number)
+invariant-loop-number l = l.some ≡ filter (is_enabled (setup_of l.g) (world_of l.g))
+    (events_below (setup_of l.g).shape.nodes l.number)

@@ -17,13 +17,17 @@ loop-turn-init c =
     }
 
 pub returns-in_err-entry-clause-err : goal.returns-in_err-entry-clause-err
-returns-in_err-entry-clause-err c = on_err c.from_residual.result
-    (c.loop-turn.entries, begun_still (setup_of c.args.g.now) c.args.stride (world_of c.args.g.now) (world_of c.loop-turn.g) (world_of c.advance.new.g) c.loop-turn.entries c.in_err-entry.ensures.err c.loop-turn.invariant.begun)
+returns-in_err-entry-clause-err c = on_err c.from_residual.result (
+  c.loop-turn.entries,
+  begun_still (setup_of c.args.g.now) c.args.stride (world_of c.args.g.now) (world_of c.loop-turn.g)
+      (world_of c.advance.new.g) c.loop-turn.entries c.in_err-entry.ensures.err c.loop-turn.invariant.begun,
+)
 
 pub returns-in_err-push_entry-clause-err : goal.returns-in_err-push_entry-clause-err
 returns-in_err-push_entry-clause-err c = on_err c.from_residual-in_err-push_entry.result (
   c.loop-turn.entries ++ c.in-Some.entry ∷ [],
-  begun_at (setup_of c.args.g.now) (setup_of c.loop-turn.g) c.args.stride c.loop-turn.turn (world_of c.args.g.now) (world_of c.loop-turn.g) (world_of c.advance.new.g) c.loop-turn.entries c.in_ok-entry.field-0 c.in-Some.entry
+  begun_at (setup_of c.args.g.now) (setup_of c.loop-turn.g) c.args.stride c.loop-turn.turn (world_of c.args.g.now)
+      (world_of c.loop-turn.g) (world_of c.advance.new.g) c.loop-turn.entries c.in_ok-entry.field-0 c.in-Some.entry
       c.loop-turn.invariant.setup c.loop-turn.invariant.count c.loop-turn.invariant.begun c.in-Some.is c.in_ok-entry.ensures.step,
 )
 
@@ -33,7 +37,8 @@ returns-clause-err c = (c.loop-turn.entries, c.loop-turn.invariant.begun)
 pub returns-in_default-clause-settles : goal.returns-in_default-clause-settles
 returns-in_default-clause-settles c =
     let none : c.in_ok-entry.field-0 ≡ None = search rules in
-    settles_at (setup_of c.args.g.now) (setup_of c.loop-turn.g) c.args.stride c.loop-turn.turn (world_of c.args.g.now) (world_of c.loop-turn.g) (world_of c.advance.new.g) c.loop-turn.entries c.in_ok-entry.field-0
+    settles_at (setup_of c.args.g.now) (setup_of c.loop-turn.g) c.args.stride c.loop-turn.turn (world_of c.args.g.now)
+    (world_of c.loop-turn.g) (world_of c.advance.new.g) c.loop-turn.entries c.in_ok-entry.field-0
     c.loop-turn.invariant.setup c.loop-turn.invariant.count c.loop-turn.invariant.begun none c.in_ok-entry.ensures.step
 
 pub loop-turn-preserved : goal.loop-turn-preserved
@@ -43,8 +48,16 @@ loop-turn-preserved c =
     let e : Entry = c.in-Some.entry in
     record {
       setup = c.in_ok-entry.ensures.setup ∙ c.loop-turn.invariant.setup;
-      count = omega (arith, ap (λ (es : List Entry). length es) c.in_ok-push_entry.ensures, length-append c.loop-turn.entries (e ∷ []), c.loop-turn.invariant.count);
-      begun = subst (λ (es : List Entry). HasBegun s c.args.stride 0 g es (world_of c.advance.new.g)) (sym c.in_ok-push_entry.ensures)
-          (begun_at s (setup_of c.loop-turn.g) c.args.stride c.loop-turn.turn g (world_of c.loop-turn.g) (world_of c.advance.new.g) c.loop-turn.entries c.in_ok-entry.field-0 e
-          c.loop-turn.invariant.setup c.loop-turn.invariant.count c.loop-turn.invariant.begun c.in-Some.is c.in_ok-entry.ensures.step);
+      count = omega (
+        arith,
+        ap (λ (es : List Entry). length es) c.in_ok-push_entry.ensures,
+        length-append c.loop-turn.entries (e ∷ []),
+        c.loop-turn.invariant.count,
+      );
+      begun = subst (λ (es : List Entry). HasBegun s c.args.stride 0 g es (world_of c.advance.new.g))
+          (sym c.in_ok-push_entry.ensures)
+          (begun_at s (setup_of c.loop-turn.g) c.args.stride c.loop-turn.turn g (world_of c.loop-turn.g)
+          (world_of c.advance.new.g) c.loop-turn.entries c.in_ok-entry.field-0 e
+          c.loop-turn.invariant.setup c.loop-turn.invariant.count c.loop-turn.invariant.begun c.in-Some.is
+          c.in_ok-entry.ensures.step);
     }

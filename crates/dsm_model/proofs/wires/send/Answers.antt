@@ -10,7 +10,8 @@ pub post-requires-clause-place : goal.post-requires-clause-place
 post-requires-clause-place c =
     let outboxes : List Outbox = c.args.outboxes.now in
     let at : c.from.result ≡ c.args.message.from = c.from.ensures ∙ c.get.ensures.value in
-    placed outboxes c.args.message.from c.args.message.to c.args.message.chan _ (element_at outboxes c.from.result c.args.message.from c.index-outboxes-from.result at c.requires.from) c.requires.place
+    placed outboxes c.args.message.from c.args.message.to c.args.message.chan _
+    (element_at outboxes c.from.result c.args.message.from c.index-outboxes-from.result at c.requires.from) c.requires.place
 
 pub returns-clause-sent : goal.returns-clause-sent
 returns-clause-sent c =
@@ -18,7 +19,9 @@ returns-clause-sent c =
     let old : Outbox = get_or outboxes c.from.result c.index-outboxes-from.result in
     let at : c.from.result ≡ c.args.message.from = c.from.ensures ∙ c.get.ensures.value in
     subst (λ k. HasSent outboxes (set outboxes k c.post.new.self) (c.args.message ∷ [])) (sym at)
-    (sent_outboxes outboxes c.args.message.from old c.post.new.self (c.args.message ∷ []) (element_at outboxes c.from.result c.args.message.from c.index-outboxes-from.result at c.requires.from) c.requires.from c.requires.room c.post.ensures.room (refl, tt) c.post.ensures.posted)
+    (sent_outboxes outboxes c.args.message.from old c.post.new.self (c.args.message ∷ [])
+    (element_at outboxes c.from.result c.args.message.from c.index-outboxes-from.result at c.requires.from) c.requires.from
+    c.requires.room c.post.ensures.room (refl, tt) c.post.ensures.posted)
 
 pub returns-clause-rooms : goal.returns-clause-rooms
 returns-clause-rooms c =
@@ -26,4 +29,6 @@ returns-clause-rooms c =
     let old : Outbox = get_or outboxes c.from.result c.index-outboxes-from.result in
     let at : c.from.result ≡ c.args.message.from = c.from.ensures ∙ c.get.ensures.value in
     subst (λ k. (f t : ℕ) (d : Chan) → rooms_of (set outboxes k c.post.new.self) f t d ≡ rooms_of outboxes f t d) (sym at)
-    (rooms_set outboxes c.args.message.from old c.post.new.self (element_at outboxes c.from.result c.args.message.from c.index-outboxes-from.result at c.requires.from) c.requires.from c.post.ensures.rooms)
+    (rooms_set outboxes c.args.message.from old c.post.new.self
+    (element_at outboxes c.from.result c.args.message.from c.index-outboxes-from.result at c.requires.from) c.requires.from
+    c.post.ensures.rooms)

@@ -5,4 +5,5 @@ use Rattle.dsm_model.specs.Views.{rooms_of}
 use Rattle.dsm_model.proofs.wires.send_all.Given as goal
 
 abbrev pub invariant-loop-message : goal.invariant-loop-message
-invariant-loop-message l = HasSent l.initial.outboxes l.outboxes (take l.message-index l.sends) × ((f t : ℕ) (c : Chan) → rooms_of l.outboxes f t c ≡ rooms_of l.initial.outboxes f t c)
+invariant-loop-message l = HasSent l.initial.outboxes l.outboxes (take l.message-index l.sends)
+    × ((f t : ℕ) (c : Chan) → rooms_of l.outboxes f t c ≡ rooms_of l.initial.outboxes f t c)

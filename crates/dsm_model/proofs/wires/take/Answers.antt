@@ -10,4 +10,6 @@ returns c =
     let old : Outbox = get_or outboxes c.from.result c.index-outboxes-from.result in
     let at : c.from.result ≡ c.args.from = c.from.ensures ∙ c.get.ensures.value in
     subst (λ k. HasTaken outboxes (set outboxes k c.take.new.self) c.args.from c.args.to c.args.chan c.take.result) (sym at)
-    (taken_outboxes outboxes c.args.from c.args.to c.args.chan c.take.result old c.take.new.self (element_at outboxes c.from.result c.args.from c.index-outboxes-from.result at c.requires.from) c.requires.from c.requires.room c.take.ensures)
+    (taken_outboxes outboxes c.args.from c.args.to c.args.chan c.take.result old c.take.new.self
+    (element_at outboxes c.from.result c.args.from c.index-outboxes-from.result at c.requires.from) c.requires.from
+    c.requires.room c.take.ensures)

@@ -11,7 +11,8 @@ returns c = record {
   deliveries = delivery;
   others = untaken;
   asked = λ s i cpu. asked_well s i cpu (asked s i cpu) refl;
-  refused = λ s i cpu store b tag is refused. refused_within s (asked s i cpu) store b tag is (asked_well s i cpu (asked s i cpu) refl) refused;
+  refused = λ s i cpu store b tag is refused. refused_within s (asked s i cpu) store b tag is
+      (asked_well s i cpu (asked s i cpu) refl) refused;
   holds = may_before;
   enabled = enabled_decides;
 }

@@ -16,5 +16,6 @@ loop-number-preserved c =
 
 pub returns : goal.returns
 returns c =
-    let end : c.loop-number.number ≡ length c.args.words.now = omega (arith, c.loop-number-test.false, c.loop-number.auto.number-end) in
+    let end : c.loop-number.number ≡ length c.args.words.now =
+    omega (arith, c.loop-number-test.false, c.loop-number.auto.number-end) in
     none_picked c.args.words.now c.loop-number.number c.args.k c.loop-number.more end c.loop-number.invariant

@@ -10,5 +10,8 @@ loop-index-preserved c =
     let places = c.loop-index.places in
     let more = c.place_of.result in
     let grown : c.push_place.new.places ≡ places ++ more ∷ [] = c.in_ok-push_place.ensures in
-    let right = right_at p code c.args.kinds places more c.requires.kinds c.loop-index.invariant.1 c.loop-index.index c.kind_at-kind.result c.loop-index.invariant.0 c.kind_at-kind.ensures c.place_of.ensures in
-    (omega (arith, ap length grown, length-append places (more ∷ []), c.loop-index.invariant.0), subst (IsRight p code c.args.kinds) (sym grown) right)
+    let right = right_at p code c.args.kinds places more c.requires.kinds c.loop-index.invariant.1 c.loop-index.index
+    c.kind_at-kind.result c.loop-index.invariant.0 c.kind_at-kind.ensures c.place_of.ensures in (
+      omega (arith, ap length grown, length-append places (more ∷ []), c.loop-index.invariant.0),
+      subst (IsRight p code c.args.kinds) (sym grown) right,
+    )

@@ -4,4 +4,5 @@ use Rattle.journal.proofs.node_lines.add_counts.Goals as goal
 
 pub loop-node-preserved : goal.loop-node-preserved
 loop-node-preserved c =
-    grown_by c.args.out.now c.loop-node.out c.add_count.new.out _ _ _ c.loop-node.invariant c.in_ok-add_count.ensures (flat_map-enumerate_from-more count_line c.args.finals.now c.loop-node.node _ c.loop-node-test.true)
+    grown_by c.args.out.now c.loop-node.out c.add_count.new.out _ _ _ c.loop-node.invariant c.in_ok-add_count.ensures
+    (flat_map-enumerate_from-more count_line c.args.finals.now c.loop-node.node _ c.loop-node-test.true)

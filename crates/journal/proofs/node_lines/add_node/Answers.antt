@@ -11,9 +11,11 @@ abbrev rest_of : List ℕ → List ℕ → List ℕ → List (List ℕ)
 rest_of place instructions handled = codes "place" ∷ place ∷ codes "instructions" ∷ instructions ∷ codes "handlers" ∷ handled ∷ []
 
 abbrev written_rest : List ℕ → List ℕ → List ℕ → List ℕ
-written_rest place instructions handled = codes " place " ++ (place ++ (codes " instructions " ++ (instructions ++ (codes " handlers " ++ (handled ++ 10 ∷ [])))))
+written_rest place instructions handled = codes " place " ++ (place
+    ++ (codes " instructions " ++ (instructions ++ (codes " handlers " ++ (handled ++ 10 ∷ [])))))
 
-rest-written : (place instructions handled : List ℕ) → spaced (rest_of place instructions handled) ++ 10 ∷ [] ≡ written_rest place instructions handled
+rest-written : (place instructions handled : List ℕ) → spaced (rest_of place instructions handled) ++ 10 ∷ []
+    ≡ written_rest place instructions handled
 rest-written place instructions handled =
     let end : List ℕ = 10 ∷ [] in
     let third : List ℕ = codes " handlers " ++ (handled ++ []) in
@@ -33,6 +35,7 @@ returns c =
     let begun : c.write.new.self ≡ c.args.out.now ++ (codes "node" ++ spaced first) = simp append-nil c.in_ok-write.ensures in
     on_ok_weaker c.writeln.result
     (λ (e : c.writeln.new.self ≡ c.add_outcome.new.out ++ written_rest place instructions handled).
-    line-made c.args.out.now c.write.new.self c.add_outcome.new.out c.writeln.new.self (codes "node") first words (rest_of place instructions handled)
+    line-made c.args.out.now c.write.new.self c.add_outcome.new.out c.writeln.new.self (codes "node") first words
+    (rest_of place instructions handled)
     begun c.in_ok-add_outcome.ensures (e ∙ ap (λ l. c.add_outcome.new.out ++ l) (sym (rest-written place instructions handled))))
     c.writeln.ensures

@@ -9,4 +9,5 @@ returns-clause-justified c = λ j.
     let ops = c.args.ops.now in
     let here = slice_get_read ops (length ops) c.args.at c.index-ops-at.result refl c.requires.within c.index-ops-at.is in
     let step = subst (λ t. IsStep c.index-ops-at.result c.args.at t c.step-slots.result) c.items.ensures c.step-slots.ensures in
-    subst (IsJustified ops) (sym c.set.ensures) (justified_set ops c.args.table.now c.args.at c.step-slots.result c.index-ops-at.result j here (omega arith) step)
+    subst (IsJustified ops) (sym c.set.ensures) (justified_set ops c.args.table.now c.args.at c.step-slots.result
+    c.index-ops-at.result j here (omega arith) step)

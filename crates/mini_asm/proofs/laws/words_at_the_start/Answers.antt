@@ -7,7 +7,8 @@ pub returns-clause-count : goal.returns-clause-count
 returns-clause-count c = length-first_words
 
 pub returns-clause-given : goal.returns-clause-given
-returns-clause-given c = λ size address value before after init. with_given-at address value before after (replicate size 0) size (length-replicate size 0) init
+returns-clause-given c = λ size address value before after init. with_given-at address value before after
+    (replicate size 0) size (length-replicate size 0) init
 
 pub returns-clause-others : goal.returns-clause-others
 returns-clause-others c = λ size address init apart. with_given-apart address init (replicate size 0) apart ∙ zeros size address

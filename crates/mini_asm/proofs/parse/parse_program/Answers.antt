@@ -18,7 +18,8 @@ returns-in_err-read c =
 pub returns-in-Some : goal.returns-in-Some
 returns-in-Some c =
     let read = c.in_ok-read.ensures.value ∙ ap Ok (sym c.as_slice-written.ensures.value) in
-    too_long c.args.version c.args.lines.now c.as_slice-written.result.now read c.in-Some.line (sym c.code_line.ensures ∙ c.in-Some.is)
+    too_long c.args.version c.args.lines.now c.as_slice-written.result.now read c.in-Some.line
+    (sym c.code_line.ensures ∙ c.in-Some.is)
 
 pub places_of-requires : goal.places_of-requires
 places_of-requires c = code_count-few 4096 c.as_slice-written.result.now (sym c.code_line.ensures ∙ c.in_default.is)
@@ -28,7 +29,8 @@ returns-in_err-places c =
     let p = err_from_is_err_and c.from_residual-in_err-places.result c.from_residual-in_err-places.ensures.1 in
     let read = c.in_ok-read.ensures.value ∙ ap Ok (sym c.as_slice-written.ensures.value) in
     let short = sym c.code_line.ensures ∙ c.in_default.is in
-    rw (p.1, p.2) (label_fault c.args.version c.args.lines.now c.as_slice-written.result.now read short c.in_err-places.field-0.0 c.in_err-places.ensures.fault)
+    rw (p.1, p.2) (label_fault c.args.version c.args.lines.now c.as_slice-written.result.now read short
+    c.in_err-places.field-0.0 c.in_err-places.ensures.fault)
 
 pub returns-in_err-instrs : goal.returns-in_err-instrs
 returns-in_err-instrs c =
@@ -36,19 +38,25 @@ returns-in_err-instrs c =
     let read = c.in_ok-read.ensures.value ∙ ap Ok (sym c.as_slice-written.ensures.value) in
     let short = sym c.code_line.ensures ∙ c.in_default.is in
     rw (p.1, p.2) (code_fault c.args.version c.args.lines.now c.as_slice-written.result.now read short c.in_ok-places.ensures.once
-    (λ name. get_by (λ k. slice_cmp nat_cmp name k.now) c.in_ok-places.places) c.in_ok-places.ensures.places c.in_err-instrs.field-0.0 c.in_err-instrs.ensures)
+    (λ name. get_by (λ k. slice_cmp nat_cmp name k.now) c.in_ok-places.places) c.in_ok-places.ensures.places
+    c.in_err-instrs.field-0.0 c.in_err-instrs.ensures)
 
 pub of-requires-2 : goal.of-requires-2
 of-requires-2 c =
     let read = c.in_ok-read.ensures.value ∙ ap Ok (sym c.as_slice-written.ensures.value) in
     let short = sym c.code_line.ensures ∙ c.in_default.is in
-    let forms = subst (λ (ws : List Written). All (λ w. IsForm w.form) ws) (sym c.as_slice-written.ensures.value) c.in_ok-read.ensures.valid in
-    rw c.of.ensures (program-valid c.args.version c.args.lines.now c.as_slice-written.result.now read short c.in_ok-places.ensures.once
-    (λ name. get_by (λ k. slice_cmp nat_cmp name k.now) c.in_ok-places.places) c.in_ok-places.ensures.places c.in_ok-instrs.instrs.items forms c.in_ok-instrs.ensures)
+    let forms = subst (λ (ws : List Written). All (λ w. IsForm w.form) ws)
+    (sym c.as_slice-written.ensures.value) c.in_ok-read.ensures.valid in
+    rw c.of.ensures (program-valid c.args.version c.args.lines.now c.as_slice-written.result.now read short
+    c.in_ok-places.ensures.once
+    (λ name. get_by (λ k. slice_cmp nat_cmp name k.now) c.in_ok-places.places) c.in_ok-places.ensures.places
+    c.in_ok-instrs.instrs.items forms c.in_ok-instrs.ensures)
 
 pub returns : goal.returns
 returns c =
     let read = c.in_ok-read.ensures.value ∙ ap Ok (sym c.as_slice-written.ensures.value) in
     let short = sym c.code_line.ensures ∙ c.in_default.is in
-    rw (c.of-2.ensures, c.of.ensures) (sym (codes_are c.args.version c.args.lines.now c.as_slice-written.result.now read short c.in_ok-places.ensures.once
-    (λ name. get_by (λ k. slice_cmp nat_cmp name k.now) c.in_ok-places.places) c.in_ok-places.ensures.places) ∙ c.in_ok-instrs.ensures)
+    rw (c.of-2.ensures, c.of.ensures)
+    (sym (codes_are c.args.version c.args.lines.now c.as_slice-written.result.now read short c.in_ok-places.ensures.once
+    (λ name. get_by (λ k. slice_cmp nat_cmp name k.now) c.in_ok-places.places) c.in_ok-places.ensures.places)
+    ∙ c.in_ok-instrs.ensures)

@@ -6,4 +6,5 @@ use Rattle.mini_asm.proofs.parse.written_of.Given as goal
 
 abbrev pub invariant-loop-line : goal.invariant-loop-line
 invariant-loop-line l =
-    (with_front l.written.items (written_of l.version (drop l.line-index l.lines)) ≡ written_of l.version l.lines) × All (λ w. IsForm w.form) l.written.items
+    (with_front l.written.items (written_of l.version (drop l.line-index l.lines)) ≡ written_of l.version l.lines)
+    × All (λ w. IsForm w.form) l.written.items

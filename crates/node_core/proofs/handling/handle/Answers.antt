@@ -1,4 +1,4 @@
-use Rattle.std.proofs.Common.{◌≡◌, ◌∙◌, Some, length, ap, sym, arith, refl, get_or}
+use Rattle.std.proofs.Common.{◌≡◌, Some, length, ap, arith, refl}
 use Rattle.std.specs.List.{slice_index_or}
 use Rattle.handler_vm.specs.declared.cell.Cell.{Cell}
 use Rattle.node_meaning.specs.Handling.{after_at}

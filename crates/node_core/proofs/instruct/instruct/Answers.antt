@@ -13,7 +13,8 @@ refuse-requires-clause-access c =
     (sym (asked_same c.args.setup.now c.args.code.now c.args.me x n c.requires.work refl)) c.in-Refused.ensures.0
 
 pub perform-requires-clause-counted : goal.perform-requires-clause-counted
-perform-requires-clause-counted c = can_step c.args.setup.now c.args.code.now c.args.me c.args.state.now c.requires.work c.requires.ready
+perform-requires-clause-counted c = can_step c.args.setup.now c.args.code.now c.args.me c.args.state.now c.requires.work
+    c.requires.ready
 
 pub returns-in-Goes : goal.returns-in-Goes
 returns-in-Goes c =

@@ -1,7 +1,8 @@
 use Rattle.std.proofs.Common.{◌+◌, arith, ap, refl}
 use Rattle.node_core.specs.States.{shown_of}
 use Rattle.node_meaning.specs.Nodes.{front_at}
-use Rattle.node_core.proofs.Takes.{can_handle, delivery_made, delivery_tests, early_is, early_there, may_handle_few, may_handle_sent, stamp_fits}
+use Rattle.node_core.proofs.Takes.{can_handle, delivery_made, delivery_tests, early_is, early_there, may_handle_few}
+use Rattle.node_core.proofs.Takes.{may_handle_sent, stamp_fits}
 use Rattle.node_core.proofs.take.deliver.Goals as goal
 
 pub take_front-message-requires : goal.take_front-message-requires
@@ -41,13 +42,17 @@ handle-requires c =
 pub returns-clause-makes : goal.returns-clause-makes
 returns-clause-makes c =
     (delivery_made c.args.setup.now c.args.code.now c.args.me c.args.state.now c.handle.new.state c.args.from c.args.chan
-    c.take_front-message.result c.take_front-message.new.fronts (c.max-stamp.result + 1) c.handler_events_are_made.ensures.deliveries
-    c.requires.node c.requires.enabled c.requires.from c.take_front-message.ensures.taken c.take_front-message.ensures.items c.take_front-message.ensures.accepted (ap (λ n. n + 1) c.max-stamp.ensures)
+    c.take_front-message.result c.take_front-message.new.fronts
+    (c.max-stamp.result + 1) c.handler_events_are_made.ensures.deliveries
+    c.requires.node c.requires.enabled c.requires.from c.take_front-message.ensures.taken c.take_front-message.ensures.items
+    c.take_front-message.ensures.accepted (ap (λ n. n + 1) c.max-stamp.ensures)
     c.handle.ensures).makes
 
 pub returns-clause-node : goal.returns-clause-node
 returns-clause-node c =
     (delivery_made c.args.setup.now c.args.code.now c.args.me c.args.state.now c.handle.new.state c.args.from c.args.chan
-    c.take_front-message.result c.take_front-message.new.fronts (c.max-stamp.result + 1) c.handler_events_are_made.ensures.deliveries
-    c.requires.node c.requires.enabled c.requires.from c.take_front-message.ensures.taken c.take_front-message.ensures.items c.take_front-message.ensures.accepted (ap (λ n. n + 1) c.max-stamp.ensures)
+    c.take_front-message.result c.take_front-message.new.fronts
+    (c.max-stamp.result + 1) c.handler_events_are_made.ensures.deliveries
+    c.requires.node c.requires.enabled c.requires.from c.take_front-message.ensures.taken c.take_front-message.ensures.items
+    c.take_front-message.ensures.accepted (ap (λ n. n + 1) c.max-stamp.ensures)
     c.handle.ensures).node

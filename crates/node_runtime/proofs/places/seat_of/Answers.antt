@@ -13,7 +13,13 @@ pub new-requires : goal.new-requires
 new-requires g c =
     let n = g.N.Naming.setup.shape.nodes in
     let within : g.row.ME < n =
-    omega (arith, c.if-nodes.false, c.nodes.ensures.value, ap (λ (z : Sizes). z.nodes) c.shape.ensures.value, ap (λ (s : Setup). s.shape.nodes) c.requires.setup) in
+    omega (
+      arith,
+      c.if-nodes.false,
+      c.nodes.ensures.value,
+      ap (λ (z : Sizes). z.nodes) c.shape.ensures.value,
+      ap (λ (s : Setup). s.shape.nodes) c.requires.setup,
+    ) in
     let own : Ends = c.unwrap-own.result in
     let rest : List Ends = into_iter_items c.next.new.self in
     let is : into_iter_items c.args.ends.now ≡ own ∷ rest =

@@ -9,9 +9,11 @@ pub returns-in-Some : goal.returns-in-Some
 returns-in-Some c =
     let did = act_tokens c.args.names.now.protocol.now c.args.act.now in
     c.says_nothing.ensures
-    ∙ sym (says-past_all did (whats (drop 6 c.args.tokens.now)) (whats c.in-Some.rest.now) (c.in-Some.ensures ∙ ap (λ (ts : List Token). past did (whats ts)) c.behind.ensures))
+    ∙ sym (says-past_all did (whats (drop 6 c.args.tokens.now)) (whats c.in-Some.rest.now)
+    (c.in-Some.ensures ∙ ap (λ (ts : List Token). past did (whats ts)) c.behind.ensures))
 
 pub returns-in-None : goal.returns-in-None
 returns-in-None c =
     let did = act_tokens c.args.names.now.protocol.now c.args.act.now in
-    sym (says-none_all did (whats (drop 6 c.args.tokens.now)) (c.in-None.ensures ∙ ap (λ (ts : List Token). past did (whats ts)) c.behind.ensures))
+    sym (says-none_all did (whats (drop 6 c.args.tokens.now))
+    (c.in-None.ensures ∙ ap (λ (ts : List Token). past did (whats ts)) c.behind.ensures))

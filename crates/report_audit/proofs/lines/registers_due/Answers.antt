@@ -9,4 +9,5 @@ loop-number-preserved c =
     let f : ℕ → List Due = registers_due c.args.flat.now in
     let before : List Due = c.loop-number.due in
     let at = rw c.unwrap-node.ensures at c.new.ensures in
-    grown_to f [] before c.add_registers.new.due c.loop-number.number c.loop-number.invariant (c.in_ok-add_registers.ensures ∙ ap (λ (k : ℕ). before ++ f k) at.1)
+    grown_to f [] before c.add_registers.new.due c.loop-number.number c.loop-number.invariant
+    (c.in_ok-add_registers.ensures ∙ ap (λ (k : ℕ). before ++ f k) at.1)

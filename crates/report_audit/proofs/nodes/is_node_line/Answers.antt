@@ -12,5 +12,6 @@ returns-else-says_so c =
     elim c.if-says_mode.branch [
       | then-says_mode w ↦ absurd (cc (w.value-is, c.if-says_so.false))
       | else-says_mode w ↦
-          third _ _ _ _ (sym c.says_mode.ensures ∙ w.if-says_mode.false) (sym w.says_so.ensures ∙ sym w.value-is ∙ c.if-says_so.false) c.says_failed.ensures
+          third _ _ _ _ (sym c.says_mode.ensures ∙ w.if-says_mode.false)
+          (sym w.says_so.ensures ∙ sym w.value-is ∙ c.if-says_so.false) c.says_failed.ensures
     ]

@@ -19,7 +19,8 @@ returns-in_default-past c =
     let end : List What = map meant c.args.end.now in
     let counts : List What = count_tokens stands.place stands.tried stands.handled in
     let ending = whats c.in-Some.ending.now in
-    sym (says-none end counts ending c.in_default-past.ensures) ∙ sym (says-past (name_tokens stands.node) (end ++ counts) (whats c.args.tokens.now) ending c.in-Some.ensures)
+    sym (says-none end counts ending c.in_default-past.ensures)
+    ∙ sym (says-past (name_tokens stands.node) (end ++ counts) (whats c.args.tokens.now) ending c.in-Some.ensures)
 
 pub returns : goal.returns
 returns c =

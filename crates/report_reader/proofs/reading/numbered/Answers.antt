@@ -4,12 +4,14 @@ use Rattle.report_reader.proofs.reading.numbered.Goals as goal
 
 pub returns-then-not-is_event : goal.returns-then-not-is_event
 returns-then-not-is_event c =
-    numbered-stops c.args.events.now c.loop-number.number c.index-events-number.result c.items.result.now c.is_event.result _ c.loop-number-test.true c.index-events-number.is c.items.ensures
+    numbered-stops c.args.events.now c.loop-number.number c.index-events-number.result c.items.result.now c.is_event.result _
+    c.loop-number-test.true c.index-events-number.is c.items.ensures
     c.is_event.ensures c.if-not-is_event.true c.loop-number.invariant
 
 pub loop-number-preserved : goal.loop-number-preserved
 loop-number-preserved c =
-    numbered-goes c.args.events.now c.loop-number.number c.index-events-number.result c.items.result.now c.is_event.result _ c.loop-number-test.true c.index-events-number.is c.items.ensures
+    numbered-goes c.args.events.now c.loop-number.number c.index-events-number.result c.items.result.now c.is_event.result _
+    c.loop-number-test.true c.index-events-number.is c.items.ensures
     c.is_event.ensures c.if-not-is_event.false c.loop-number.invariant
 
 pub returns : goal.returns

@@ -5,4 +5,6 @@ use Rattle.report_replay.specs.Texts.{block_lines}
 use Rattle.report_replay.proofs.blocks.add_blocks.Given as goal
 
 abbrev pub invariant-loop-number : goal.invariant-loop-number
-invariant-loop-number l = l.out ≡ l.initial.out ++ flat_map (block_lines l.names.protocol.now (setup_of l.g).shape.blocks (world_of l.g)) (range_with_len 0 l.number)
+invariant-loop-number l =
+    l.out ≡ l.initial.out ++ flat_map (block_lines l.names.protocol.now (setup_of l.g).shape.blocks (world_of l.g))
+    (range_with_len 0 l.number)

@@ -5,4 +5,5 @@ use Rattle.report_replay.specs.Texts.{block_line}
 use Rattle.report_replay.proofs.blocks.add_blocks_at.Given as goal
 
 abbrev pub invariant-loop-number : goal.invariant-loop-number
-invariant-loop-number l = l.out ≡ l.initial.out ++ flat_map (block_line l.names.protocol.now (world_of l.g) l.node) (range_with_len 0 l.number)
+invariant-loop-number l = l.out ≡ l.initial.out ++ flat_map (block_line l.names.protocol.now (world_of l.g) l.node)
+    (range_with_len 0 l.number)

@@ -11,8 +11,10 @@ returns-then-is_entry-clause-value c =
     let g = world_of c.args.g.now in
     let l = c.args.line.now in
     let e = c.in_ok-entry.entry in
-    let told : is_told s c.args.number e l ≡ true = told-by s c.args.number e l c.args.names.now.protocol.now c.items.result.now c.is_entry.result true c.requires.names c.items.ensures c.is_entry.ensures c.if-is_entry.true in
-    made-told s g c.args.number l c.args.event.now e (world_of c.step.new.g) c.requires.event c.requires.test c.in_ok-entry.ensures.event c.in_ok-entry.ensures.step told
+    let told : is_told s c.args.number e l ≡ true = told-by s c.args.number e l c.args.names.now.protocol.now
+    c.items.result.now c.is_entry.result true c.requires.names c.items.ensures c.is_entry.ensures c.if-is_entry.true in
+    made-told s g c.args.number l c.args.event.now e (world_of c.step.new.g) c.requires.event c.requires.test
+    c.in_ok-entry.ensures.event c.in_ok-entry.ensures.step told
 
 pub returns-else-is_entry-clause-value : goal.returns-else-is_entry-clause-value
 returns-else-is_entry-clause-value c =
@@ -20,6 +22,8 @@ returns-else-is_entry-clause-value c =
     let g = world_of c.args.g.now in
     let l = c.args.line.now in
     let e = c.in_ok-entry.entry in
-    let told : is_told s c.args.number e l ≡ false = told-by s c.args.number e l c.args.names.now.protocol.now c.items.result.now c.is_entry.result false c.requires.names c.items.ensures c.is_entry.ensures c.if-is_entry.false in
+    let told : is_told s c.args.number e l ≡ false = told-by s c.args.number e l c.args.names.now.protocol.now
+    c.items.result.now c.is_entry.result false c.requires.names c.items.ensures c.is_entry.ensures c.if-is_entry.false in
     answers-denied c.denied.result l.line OtherEntry (λ end. Leads s g c.args.number (l ∷ []) end) c.denied.ensures
-    (made-other s g c.args.number l c.args.event.now e (world_of c.step.new.g) c.requires.event c.requires.test c.in_ok-entry.ensures.event c.in_ok-entry.ensures.step told)
+    (made-other s g c.args.number l c.args.event.now e (world_of c.step.new.g) c.requires.event c.requires.test
+    c.in_ok-entry.ensures.event c.in_ok-entry.ensures.step told)

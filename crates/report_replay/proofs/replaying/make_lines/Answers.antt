@@ -18,7 +18,8 @@ returns-in_err-make_line-clause-value c =
     let q = err_from_is_err_and c.from_residual.result c.from_residual.ensures.1 in
     rw (q.1, q.2)
     (answers-along (is_memory e) e (λ end. Leads t g k (l ∷ []) end) (λ end. Leads s (world_of c.args.g.now) 0 lines end)
-    (λ h. c.loop-number.invariant.before (Err e) (turn-off s t g lines k l e c.loop-number.invariant.setup c.loop-number-test.true c.index-lines-number.is h)) c.in_err-make_line.ensures.value)
+    (λ h. c.loop-number.invariant.before (Err e) (turn-off s t g lines k l e c.loop-number.invariant.setup
+    c.loop-number-test.true c.index-lines-number.is h)) c.in_err-make_line.ensures.value)
 
 pub loop-number-preserved : goal.loop-number-preserved
 loop-number-preserved c =
@@ -29,6 +30,7 @@ loop-number-preserved c =
       setup = c.in_ok-make_line.ensures.setup ∙ c.loop-number.invariant.setup;
       before = λ end rest.
           c.loop-number.invariant.before end
-          (turn-on s t g c.args.lines.now c.loop-number.number c.index-lines-number.result (world_of c.make_line.new.g) end c.loop-number.invariant.setup c.loop-number-test.true c.index-lines-number.is
+          (turn-on s t g c.args.lines.now c.loop-number.number c.index-lines-number.result
+          (world_of c.make_line.new.g) end c.loop-number.invariant.setup c.loop-number-test.true c.index-lines-number.is
           c.in_ok-make_line.ensures.value rest);
     }

@@ -9,4 +9,5 @@ loop-number-preserved c =
     let f : ℕ → List ℕ = wires_between (world_of c.args.g.now) c.args.from in
     let before : List ℕ = c.loop-number.out in
     let at = rw c.unwrap-to.ensures at c.new.ensures in
-    range_grown f c.args.out.now before c.add_between.new.out c.loop-number.number c.loop-number.invariant (c.in_ok-add_between.ensures ∙ ap (λ (k : ℕ). before ++ f k) at.1)
+    range_grown f c.args.out.now before c.add_between.new.out c.loop-number.number c.loop-number.invariant
+    (c.in_ok-add_between.ensures ∙ ap (λ (k : ℕ). before ++ f k) at.1)

@@ -19,7 +19,8 @@ returns c =
     let begun : c.write.new.self ≡ c.args.out.now ++ (codes "node" ++ spaced first) = simp append-nil c.in_ok-write.ensures in
     on_ok_weaker c.writeln.result
     (λ (e : c.writeln.new.self ≡ c.add_outcome.new.out ++ (codes " print " ++ (decimal c.first_print-value.result ++ 10 ∷ []))).
-    line-made c.args.out.now c.write.new.self c.add_outcome.new.out c.writeln.new.self (codes "node") first words (codes "print" ∷ value ∷ [])
+    line-made c.args.out.now c.write.new.self c.add_outcome.new.out c.writeln.new.self (codes "node") first words
+    (codes "print" ∷ value ∷ [])
     begun c.in_ok-add_outcome.ensures
     (e ∙ ap (λ l. c.add_outcome.new.out ++ (codes " print " ++ (decimal l ++ 10 ∷ []))) c.first_print-value.ensures
     ∙ ap (λ l. c.add_outcome.new.out ++ l) (sym (print-written value))))

@@ -8,6 +8,7 @@ pub returns-then-not-is_line : goal.returns-then-not-is_line
 returns-then-not-is_line c = (
   λ f. absurd (cc),
   λ h.
-      let k : c.is_line.result ≡ true = c.is_line.ensures.1 (ap bare c.index-stmts-at.is ∙ both_at bare line_of _ _ _ _ _ c.loop-at-test.true (omega arith) h) in
+      let k : c.is_line.result ≡ true = c.is_line.ensures.1 (ap bare c.index-stmts-at.is
+      ∙ both_at bare line_of _ _ _ _ _ c.loop-at-test.true (omega arith) h) in
       absurd (cc),
 )

@@ -8,6 +8,8 @@ pub returns-then-not-is_message : goal.returns-then-not-is_message
 returns-then-not-is_message c = (
   λ f. absurd (cc),
   λ h.
-      let k : c.is_message.result ≡ true = c.is_message.ensures.1 (ap bare_message c.index-messages-at.is ∙ both_at bare_message message_of _ _ _ _ _ c.loop-at-test.true (omega arith) h) in
+      let k : c.is_message.result ≡ true = c.is_message.ensures.1
+      (ap bare_message c.index-messages-at.is ∙ both_at bare_message message_of _ _ _ _ _ c.loop-at-test.true
+      (omega arith) h) in
       absurd (cc),
 )

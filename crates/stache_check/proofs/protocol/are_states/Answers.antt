@@ -8,6 +8,8 @@ pub returns-then-not-is_state : goal.returns-then-not-is_state
 returns-then-not-is_state c = (
   λ f. absurd (cc),
   λ h.
-      let k : c.is_state.result ≡ true = c.is_state.ensures.1 (ap bare_state c.index-states-at.is ∙ both_at bare_state (state_under c.args.directory) _ _ _ _ _ c.loop-at-test.true (omega arith) h) in
+      let k : c.is_state.result ≡ true = c.is_state.ensures.1
+      (ap bare_state c.index-states-at.is ∙ both_at bare_state (state_under c.args.directory) _ _ _ _ _ c.loop-at-test.true
+      (omega arith) h) in
       absurd (cc),
 )

@@ -12,10 +12,12 @@ accepted_protocol-requires-clause-room c = omega (arith, text-length, ap (λ t. 
 
 pub accepted_protocol-requires-clause-accepted : goal.accepted_protocol-requires-clause-accepted
 accepted_protocol-requires-clause-accepted c =
-    subst IsAcceptedText (sym c.stache_l_text.ensures) (accepted-text literal text_of_l c.text_is_stache_l.ensures c.stache_l_is_accepted.ensures)
+    subst IsAcceptedText (sym c.stache_l_text.ensures) (accepted-text literal text_of_l c.text_is_stache_l.ensures
+    c.stache_l_is_accepted.ensures)
 
 pub returns-clause-text : goal.returns-clause-text
 returns-clause-text c = rw c.stache_l_text.ensures at c.accepted_protocol.ensures
 
 pub returns-clause-tree : goal.returns-clause-tree
-returns-clause-tree c = IfOk-weaker _ _ _ (is-literal literal text_of_l c.text_is_stache_l.ensures) (rw c.stache_l_text.ensures at c.accepted_protocol.ensures)
+returns-clause-tree c = IfOk-weaker _ _ _ (is-literal literal text_of_l c.text_is_stache_l.ensures)
+    (rw c.stache_l_text.ensures at c.accepted_protocol.ensures)

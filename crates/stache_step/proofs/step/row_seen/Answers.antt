@@ -13,5 +13,6 @@ returns c =
     let infos = c.items-infos.ensures in
     c.row_number.ensures ∙ same_row _ _ _ _ _ _ _ _ _ _ c.place_seen-place.ensures
     (ap kind_of_note c.note_of-came.ensures ∙ kind_is (seen_kind m.kind) (words_in m.payload)) c.rest_read.ensures
-    (c.others-others.ensures ∙ ap (λ s. members 8 (without_node (has s) m.from)) (c.sharers.ensures ∙ ap (λ xs. set_of (value_at xs 0)) infos))
+    (c.others-others.ensures ∙ ap (λ s. members 8 (without_node (has s) m.from))
+    (c.sharers.ensures ∙ ap (λ xs. set_of (value_at xs 0)) infos))
     (c.acks.ensures ∙ ap (λ xs. int_of (value_at xs 2)) infos)

@@ -6,6 +6,8 @@ pub returns : goal.returns
 returns c = record {
   value = c.row_seen.ensures;
   meaning =
-      row_is_meant c.table_is_the_meaning.ensures c.rows_say_the_table.ensures c.blocks_are_read.ensures c.args.here.now c.args.m.now c.row_seen.result c.row_seen.ensures;
-  only = only_row c.table_is_the_meaning.ensures c.blocks_are_read.ensures c.args.here.now c.args.m.now c.row_seen.result c.row_seen.ensures;
+      row_is_meant c.table_is_the_meaning.ensures c.rows_say_the_table.ensures c.blocks_are_read.ensures c.args.here.now
+      c.args.m.now c.row_seen.result c.row_seen.ensures;
+  only = only_row c.table_is_the_meaning.ensures c.blocks_are_read.ensures c.args.here.now c.args.m.now c.row_seen.result
+      c.row_seen.ensures;
 }

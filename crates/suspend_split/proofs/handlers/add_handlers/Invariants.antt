@@ -5,4 +5,5 @@ use Rattle.suspend_split.proofs.handlers.add_handlers.Given as goal
 
 abbrev pub invariant-loop-handler : goal.invariant-loop-handler
 invariant-loop-handler l =
-    l.code ≡ with_entries l.w.protocol.now l.initial.code (map (entry_in l.number l.state) (take l.handler-index l.state.handlers))
+    l.code ≡ with_entries l.w.protocol.now l.initial.code (map (entry_in l.number l.state)
+    (take l.handler-index l.state.handlers))

@@ -11,6 +11,10 @@ use Rattle.teapot_check.proofs.again.again_named.Given as goal
 
 abbrev pub invariant-loop-named : goal.invariant-loop-named
 invariant-loop-named l = record {
-  seen : (q : List ℕ) → is_some (get_by (λ k. slice_cmp nat_cmp q k.now) l.seen) ≡ list_any (λ (y : Name × ℕ). bytes_eq y.0 q) (take l.named-index l.names);
-  found : least (again_names l.names) ≡ lesser l.least (least (again (λ (x : Name × ℕ) (y : Name × ℕ). bytes_eq y.0 x.0) (λ (x : Name × ℕ). x.1) (take l.named-index l.names) (drop l.named-index l.names)));
+  seen : (q : List ℕ) → is_some (get_by (λ k. slice_cmp nat_cmp q k.now) l.seen)
+      ≡ list_any (λ (y : Name × ℕ). bytes_eq y.0 q) (take l.named-index l.names);
+  found : least (again_names l.names)
+      ≡ lesser l.least
+      (least (again (λ (x : Name × ℕ) (y : Name × ℕ). bytes_eq y.0 x.0) (λ (x : Name × ℕ). x.1) (take l.named-index l.names)
+      (drop l.named-index l.names)));
 }

@@ -11,5 +11,7 @@ pub loop-scope-preserved : goal.loop-scope-preserved
 loop-scope-preserved c =
     let lines = λ (x : Scope). handler_lines c.args.rule (scope_of x) in
     let found : c.in_ok-handler_line.field-0 ≡ least (lines c.scope-item.result) = c.in_ok-handler_line.ensures in
-    let e = flat_more lines c.args.scopes.now c.loop-scope.scope-index c.scope-item.result (least (flat_map lines c.args.scopes.now)) c.loop-scope.least c.loop-scope-test.true c.scope-item.is c.loop-scope.invariant in
+    let e = flat_more lines c.args.scopes.now c.loop-scope.scope-index c.scope-item.result
+    (least (flat_map lines c.args.scopes.now)) c.loop-scope.least c.loop-scope-test.true c.scope-item.is
+    c.loop-scope.invariant in
     cc

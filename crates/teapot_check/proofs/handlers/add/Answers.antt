@@ -11,4 +11,5 @@ loop-handler-preserved c =
     ∙ map-append scope_of c.loop-handler.scopes _
     ∙ ap (λ z. map scope_of c.loop-handler.scopes ++ z ∷ []) c.in_ok-scope.ensures
     ∙ ap (λ z. z ++ scope_in c.args.protocol.now c.args.state.now c.handler-item.result ∷ []) c.loop-handler.invariant
-    ∙ map_more (scope_in c.args.protocol.now c.args.state.now) c.items-handlers.result.now c.loop-handler.handler-index c.handler-item.result _ c.loop-handler-test.true c.handler-item.is
+    ∙ map_more (scope_in c.args.protocol.now c.args.state.now) c.items-handlers.result.now c.loop-handler.handler-index
+    c.handler-item.result _ c.loop-handler-test.true c.handler-item.is

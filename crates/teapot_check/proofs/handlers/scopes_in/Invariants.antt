@@ -6,4 +6,5 @@ use Rattle.teapot_check.specs.Handlers.{scope_in}
 use Rattle.teapot_check.proofs.handlers.scopes_in.Given as goal
 
 abbrev pub invariant-loop-state : goal.invariant-loop-state
-invariant-loop-state l = map scope_of l.scopes ≡ flat_map (λ (s : State). map (scope_in l.protocol s) s.handlers) (take l.state-index l.states)
+invariant-loop-state l = map scope_of l.scopes ≡ flat_map (λ (s : State). map (scope_in l.protocol s) s.handlers)
+    (take l.state-index l.states)

@@ -6,7 +6,8 @@ use Rattle.teapot_interpreter.proofs.interpreter.run_in.Goals as goal
 
 pub unreachable-requires : goal.unreachable-requires
 unreachable-requires c =
-    let has = all_at HasDefault c.args.p.now.states c.from.result c.in-Some.state.now c.requires.served.defaults (sym c.in-Some.ensures.value) in
+    let has = all_at HasDefault c.args.p.now.states c.from.result c.in-Some.state.now c.requires.served.defaults
+    (sym c.in-Some.ensures.value) in
     handler_found _ _ c.in-Some.state.now has (sym c.in-None-handler.ensures)
 
 pub unreachable-requires-in-None : goal.unreachable-requires-in-None

@@ -6,13 +6,15 @@ use Rattle.teapot_meaning.proofs.sets.least_of.Goals as goal
 
 pub loop-k-preserved : goal.loop-k-preserved
 loop-k-preserved c =
-    let none : has c.args.set c.loop-k.k ≡ false = ap (has c.args.set) (sym c.node-least.ensures) ∙ sym c.has.ensures.value ∙ c.if-has.false in
+    let none : has c.args.set c.loop-k.k ≡ false = ap (has c.args.set) (sym c.node-least.ensures) ∙ sym c.has.ensures.value
+    ∙ c.if-has.false in
     rw (members_more, c.loop-k.invariant, none)
 
 pub returns-then-has : goal.returns-then-has
 unfolding members
 returns-then-has c =
-    let here : has c.args.set c.loop-k.k ≡ true = ap (has c.args.set) (sym c.node-least.ensures) ∙ sym c.has.ensures.value ∙ c.if-has.true in
+    let here : has c.args.set c.loop-k.k ≡ true = ap (has c.args.set) (sym c.node-least.ensures) ∙ sym c.has.ensures.value
+    ∙ c.if-has.true in
     rw c.node-least.ensures (sym (least_at c.loop-k.k 8 c.args.set c.loop-k.invariant here c.loop-k-test.true))
 
 pub returns : goal.returns

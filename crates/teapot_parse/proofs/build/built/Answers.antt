@@ -5,7 +5,8 @@ use Rattle.teapot_parse.proofs.build.built.Goals as goal
 
 pub lines-preserved : goal.lines-preserved
 lines-preserved c =
-    rw c.in_ok-with_line.ensures (sym (built-last c.lines.parts c.pop.new.self c.in-Some.field-0) ∙ ap (built_on c.lines.parts) (sym c.in-Some.ensures) ∙ c.lines.invariant)
+    rw c.in_ok-with_line.ensures (sym (built-last c.lines.parts c.pop.new.self c.in-Some.field-0)
+    ∙ ap (built_on c.lines.parts) (sym c.in-Some.ensures) ∙ c.lines.invariant)
 
 pub returns : goal.returns
 unfolding built_on

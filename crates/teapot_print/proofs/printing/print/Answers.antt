@@ -10,5 +10,6 @@ use Rattle.teapot_print.proofs.printing.print.Goals as goal
 pub returns : goal.returns
 unfolding canon
 returns c =
-    c.into_vec.ensures ∙ ap (λ (s : Printer). s.text) c.in_ok-protocol.ensures ∙ ap (λ (s : Printer). (put_lines s (lines_of c.args.p.now)).text) c.new-printer.ensures
+    c.into_vec.ensures ∙ ap (λ (s : Printer). s.text) c.in_ok-protocol.ensures
+    ∙ ap (λ (s : Printer). (put_lines s (lines_of c.args.p.now)).text) c.new-printer.ensures
     ∙ put_lines-text (lines_of c.args.p.now) (record { text = []; last = Begin; begins = 0 })

@@ -6,4 +6,5 @@ use Rattle.teapot_rules.specs.Lists.{lesser, least, line_if}
 use Rattle.teapot_rules.proofs.breaks.clashing_conts.Given as goal
 
 abbrev pub invariant-loop-s : goal.invariant-loop-s
-invariant-loop-s l = least (flat_map (λ (s : State). line_if (names_cont s) s.line) l.states) ≡ lesser l.least (least (flat_map (λ (s : State). line_if (names_cont s) s.line) (drop l.s-index l.states)))
+invariant-loop-s l = least (flat_map (λ (s : State). line_if (names_cont s) s.line) l.states)
+    ≡ lesser l.least (least (flat_map (λ (s : State). line_if (names_cont s) s.line) (drop l.s-index l.states)))

@@ -6,4 +6,6 @@ use Rattle.teapot_rules.specs.Lists.{lesser, least, line_if}
 use Rattle.teapot_rules.proofs.breaks.undeclared_starts.Given as goal
 
 abbrev pub invariant-loop-s : goal.invariant-loop-s
-invariant-loop-s l = least (flat_map (λ (s : Start). line_if (is_none (state_of l.protocol s.state)) s.line) l.starts) ≡ lesser l.least (least (flat_map (λ (s : Start). line_if (is_none (state_of l.protocol s.state)) s.line) (drop l.s-index l.starts)))
+invariant-loop-s l = least (flat_map (λ (s : Start). line_if (is_none (state_of l.protocol s.state)) s.line) l.starts)
+    ≡ lesser l.least
+    (least (flat_map (λ (s : Start). line_if (is_none (state_of l.protocol s.state)) s.line) (drop l.s-index l.starts)))

@@ -9,5 +9,6 @@ use Rattle.teapot_rules.proofs.breaks.without_default.Goals as goal
 pub loop-s-preserved : goal.loop-s-preserved
 loop-s-preserved c =
     let lines = λ (s : State). line_if (not (has_default s)) s.line in
-    let e = flat_more lines c.args.states.now c.loop-s.s-index c.s-item.result (least (flat_map lines c.args.states.now)) c.loop-s.least c.loop-s-test.true c.s-item.is c.loop-s.invariant in
+    let e = flat_more lines c.args.states.now c.loop-s.s-index c.s-item.result
+    (least (flat_map lines c.args.states.now)) c.loop-s.least c.loop-s-test.true c.s-item.is c.loop-s.invariant in
     cc

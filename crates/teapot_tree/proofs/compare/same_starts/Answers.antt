@@ -7,7 +7,8 @@ pub returns-then-not-same : goal.returns-then-not-same
 returns-then-not-same c = (
   λ f. absurd (cc),
   λ h.
-      let e : bare_start c.index-a-at.result ≡ bare_start c.index-b-at.result = ap bare_start c.index-a-at.is ∙ map_at bare_start _ _ _ _ _ c.loop-at-test.true (omega arith) h ∙ sym (ap bare_start c.index-b-at.is) in
+      let e : bare_start c.index-a-at.result ≡ bare_start c.index-b-at.result = ap bare_start c.index-a-at.is
+      ∙ map_at bare_start _ _ _ _ _ c.loop-at-test.true (omega arith) h ∙ sym (ap bare_start c.index-b-at.is) in
       let k : c.same.result ≡ true = c.same.ensures.1 e in
       absurd (cc),
 )

@@ -4,7 +4,8 @@ use Rattle.teapot_tree.proofs.Spelled.{keyword_is, keyword_of_none}
 use Rattle.teapot_tree.proofs.keyword.keyword_of.Goals as goal
 
 pub returns-in_err-first : goal.returns-in_err-first
-returns-in_err-first c = c.from_residual.ensures ∙ sym (keyword_of_none c.args.profile c.args.word.now c.in_err-first.ensures.value)
+returns-in_err-first c = c.from_residual.ensures
+    ∙ sym (keyword_of_none c.args.profile c.args.word.now c.in_err-first.ensures.value)
 
 pub returns : goal.returns
 returns c =

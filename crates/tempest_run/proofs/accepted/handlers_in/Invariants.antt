@@ -4,4 +4,5 @@ use Rattle.tempest_run.proofs.accepted.handlers_in.Given as goal
 
 -- the handlers counted, and those of the states that are left, are all
 abbrev pub invariant-loop-state : goal.invariant-loop-state
-invariant-loop-state l = l.count + length (flat_map (λ s. s.handlers) (drop l.state-index l.states)) ≡ length (flat_map (λ s. s.handlers) l.states)
+invariant-loop-state l = l.count + length (flat_map (λ s. s.handlers) (drop l.state-index l.states))
+    ≡ length (flat_map (λ s. s.handlers) l.states)

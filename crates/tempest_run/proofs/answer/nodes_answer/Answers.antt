@@ -37,6 +37,7 @@ returns c =
     tells_of_run s c.args.stride o a new.taken end.state (tallies new) c.schedules_are_one_run.ensures.run
     c.schedules_are_one_run.ensures.quiet c.history_is_told.ensures c.protocol.ensures.valid end.schedule (λ asked. end.counts)
     (nodes_tale s o new end.state c.taken.result.now c.items.result.now c.items-2.result.now a
-    c.what_is_read_is_the_states.ensures c.protocol.ensures.valid end.same_setup end.still c.taken.ensures (c.items.ensures ∙ c.in_ok-finals.ensures)
+    c.what_is_read_is_the_states.ensures c.protocol.ensures.valid end.same_setup end.still c.taken.ensures
+    (c.items.ensures ∙ c.in_ok-finals.ensures)
     (c.items-2.ensures ∙ c.in_ok-words.ensures) is))
     c.told_answer.ensures.value

@@ -5,4 +5,5 @@ pub returns-in-Ok : goal.returns-in-Ok
 returns-in-Ok g c = wrote_all _ _ _ _ _ _ c.status.ensures c.text.ensures c.in-Ok.ensures.all c.in-Ok.ensures.cause.later
 
 pub returns-in-Err : goal.returns-in-Err
-returns-in-Err g c = wrote_front _ _ _ _ _ c.text.ensures c.in-Err.ensures.prefix c.in-Err.ensures.cause.later c.in-Err.ensures.cause.failed
+returns-in-Err g c = wrote_front _ _ _ _ _ c.text.ensures c.in-Err.ensures.prefix c.in-Err.ensures.cause.later
+    c.in-Err.ensures.cause.failed

@@ -16,4 +16,10 @@ returns c =
       stache_d = c.text_is_stache_d.ensures;
       stache_l = c.text_is_stache_l.ensures;
     } in
-    record { some = valid_or_refused laws; apart = never_both laws; one = one_refusal laws; kinds = kinds laws; no_memory = no-memory laws }
+    record {
+      some = valid_or_refused laws;
+      apart = never_both laws;
+      one = one_refusal laws;
+      kinds = kinds laws;
+      no_memory = no-memory laws;
+    }

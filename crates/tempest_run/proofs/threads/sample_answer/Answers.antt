@@ -19,7 +19,8 @@ returns g c =
     c.in_ok-broken.ensures.value
     ∙ ap (λ (j : List Entry). first_break s j) (c.items.ensures ∙ ap (λ (r : ThreadedRun). r.journal) c.run-2.view_is) in
     tells_of_sample c.args.number s run.journal c.items-2.result.now run.gathered c.items-3.result.now c.items-4.result.now
-    c.in_ok-broken.broken c.of.result c.history_is_told.ensures c.samples_have_one_summary.ensures.summary c.in_ok-setup.ensures.value c.in_ok-broken.ensures.valid
+    c.in_ok-broken.broken c.of.result c.history_is_told.ensures c.samples_have_one_summary.ensures.summary
+    c.in_ok-setup.ensures.value c.in_ok-broken.ensures.valid
     c.in_ok-setup.ensures.stache c.in_ok-run.ensures.sorted c.in_ok-run.ensures.run
     (c.items-2.ensures ∙ ap (λ (r : ThreadedRun). r.journal) c.run-2.view_is)
     (c.items-3.ensures ∙ ap (λ (r : ThreadedRun). r.gathered.finals) c.run-2.view_is)

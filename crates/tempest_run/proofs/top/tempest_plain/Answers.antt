@@ -6,7 +6,8 @@ returns-in_default g c = words_starved _ _ _
 
 pub returns-in-Err-ReadFault : goal.returns-in-Err-ReadFault
 returns-in-Err-ReadFault g c =
-    call_along _ _ _ _ _ _ _ c.in-Ok.ensures (read_stopped _ _ _ _ (rw c.in-Err-ReadFault.field-0-is at c.in-Err-ReadFault.ensures))
+    call_along _ _ _ _ _ _ _ c.in-Ok.ensures (read_stopped _ _ _ _
+    (rw c.in-Err-ReadFault.field-0-is at c.in-Err-ReadFault.ensures))
 
 pub returns-in-Err-Memory : goal.returns-in-Err-Memory
 returns-in-Err-Memory g c =

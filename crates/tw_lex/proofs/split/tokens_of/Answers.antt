@@ -17,13 +17,17 @@ fits c =
     (size.0, omega arith)
 
 pub loop-at-preserved-then-is_blank : goal.loop-at-preserved-then-is_blank
-loop-at-preserved-then-is_blank c =
-    (omega arith, scan-blank c.loop-at.tokens.items c.args.code.now c.args.start c.loop-at.at _ c.loop-at-test.true (sym c.is_blank.ensures ∙ c.if-is_blank.true) c.loop-at.invariant.1)
+loop-at-preserved-then-is_blank c = (
+  omega arith,
+  scan-blank c.loop-at.tokens.items c.args.code.now c.args.start c.loop-at.at _ c.loop-at-test.true
+      (sym c.is_blank.ensures ∙ c.if-is_blank.true) c.loop-at.invariant.1,
+)
 
 pub returns-in_default : goal.returns-in_default
 returns-in_default c =
     let none = sym c.in_default.is ∙ c.in_ok-what.ensures ∙ ap lexeme (take_rest c.args.code.now c.loop-at.at) in
-    ap (or_bad c.args.number) (scan-bad c.loop-at.tokens.items c.args.code.now c.args.start c.loop-at.at _ c.loop-at-test.true (sym c.is_blank.ensures ∙ c.if-is_blank.false) none c.loop-at.invariant.1)
+    ap (or_bad c.args.number) (scan-bad c.loop-at.tokens.items c.args.code.now c.args.start c.loop-at.at _ c.loop-at-test.true
+    (sym c.is_blank.ensures ∙ c.if-is_blank.false) none c.loop-at.invariant.1)
 
 pub overflow_add-token-in-loop-at-2 : goal.overflow_add-token-in-loop-at-2
 overflow_add-token-in-loop-at-2 c = let size = fits (goal.at.overflow_add-token-in-loop-at-2 c).In-Some in omega arith
@@ -39,8 +43,12 @@ loop-at-preserved c =
     let here = (goal.at.loop-at-preserved c).In-Some in
     let size = fits here in (
       omega arith,
-      rw c.in_ok-push.ensures.items (scan-token c.loop-at.tokens.items c.args.code.now c.args.start c.loop-at.at c.in-Some.len c.in-Some.what _ c.loop-at-test.true (sym c.is_blank.ensures ∙ c.if-is_blank.false) (found here) c.loop-at.invariant.1),
+      rw c.in_ok-push.ensures.items (scan-token c.loop-at.tokens.items c.args.code.now c.args.start c.loop-at.at c.in-Some.len
+          c.in-Some.what _ c.loop-at-test.true (sym c.is_blank.ensures ∙ c.if-is_blank.false)
+          (found here) c.loop-at.invariant.1),
     )
 
 pub returns : goal.returns
-returns c = ap (or_bad c.args.number) (scan-end c.loop-at.tokens.items c.args.code.now c.args.start c.loop-at.at _ c.loop-at-test.false c.loop-at.invariant.1)
+returns c =
+    ap (or_bad c.args.number) (scan-end c.loop-at.tokens.items c.args.code.now c.args.start c.loop-at.at _ c.loop-at-test.false
+    c.loop-at.invariant.1)

@@ -1,4 +1,3 @@
-use Rattle.std.proofs.Common.{map}
 use Rattle.tw_wire_tests.proofs.Tying.{tied-new}
 use Rattle.tw_wire_tests.proofs.rounds.new_wires.Goals as goal
 

@@ -1,10 +1,10 @@
-use Rattle.std.proofs.Common.{◌≡◌, ◌+◌, ◌*◌, ◌<◌, ◌^◌, slice_get, Some, None, subst, sym, ap, ◌∙◌, arith}
+use Rattle.std.proofs.Common.{◌≡◌, ◌+◌, ◌*◌, ◌<◌, ◌^◌, slice_get, subst, sym, ap, ◌∙◌, arith}
 use Rattle.tw_base.specs.Shape.{Sizes}
 use Rattle.mini_asm.specs.Machine.{asks, next_of}
 use Rattle.mini_asm.specs.declared.cpu.Next.{Next}
 use Rattle.blizzard_guard.specs.declared.processor.Look.TheVariants.{Refused, Goes}
 use Rattle.blizzard_guard.specs.Guarding.{plain_of, plain_place}
-use Rattle.blizzard_guard.specs.Running.{OnProgram, LookedAt, check_here, instr_here}
+use Rattle.blizzard_guard.specs.Running.{OnProgram, LookedAt, instr_here}
 use Rattle.blizzard_guard.proofs.Standing.{standing}
 use Rattle.blizzard_guard.proofs.Finishing.{room}
 use Rattle.blizzard_guard.proofs.Looking.{look_plain, look_hit, look_miss, registers_at, registers_behind, base_below}

@@ -10,7 +10,8 @@ use Rattle.coherence_reads.specs.Notes.{IsOfStache, note_in}
 use Rattle.coherence_reads.proofs.Lists.{each_more, one_more}
 use Rattle.coherence_reads.proofs.summary.Summary.and.Goals as goal
 
-tallied : (f : marks.Note → ℕ) (r : Count) (ns : List marks.Note) (x : marks.Note) → IsCount r (how_many f ns + f x) → IsCount r (how_many f (ns ++ x ∷ []))
+tallied : (f : marks.Note → ℕ) (r : Count) (ns : List marks.Note) (x : marks.Note) → IsCount r (how_many f ns + f x) →
+    IsCount r (how_many f (ns ++ x ∷ []))
 tallied f r ns x h = subst (IsCount r) (sym (one_more f ns x)) h
 
 pub returns : goal.returns

@@ -13,5 +13,6 @@ returns-in-0-clause-changes c =
 pub returns-in-1-clause-changes : goal.returns-in-1-clause-changes
 returns-in-1-clause-changes c =
     let key = c.args.key in
-    let places = Places-updates medium_whole c.self.inside.medium c.remove-in-1.new.self key.at _ _ refl c.remove-in-1.ensures.updates in
+    let places = Places-updates medium_whole c.self.inside.medium c.remove-in-1.new.self key.at _ _ refl
+    c.remove-in-1.ensures.updates in
     rw (← c.self.view_is) (Changes-at _ _ 1 key None c.in-1.is (Changes-medium (store_of c.self.inside) _ _ key.at None places))

@@ -14,8 +14,11 @@ loop-at-preserved c =
     let d = c.index-items-at.result in
     let within : k < length ws = search rules in
     let one = one_freed b ws now k d within c.loop-at.invariant.done in
-    let is : c.free-freed.result ≡ free b (get_or now k d) = c.free-freed.ensures ∙ ap (λ (w : Waiting). free b w) c.index-items-at.is ∙ ap (λ (xs : List Waiting). free b (get_or xs k d)) c.items.ensures in
+    let is : c.free-freed.result ≡ free b (get_or now k d) = c.free-freed.ensures
+    ∙ ap (λ (w : Waiting). free b w) c.index-items-at.is
+    ∙ ap (λ (xs : List Waiting). free b (get_or xs k d)) c.items.ensures in
     record {
-      size = ap (λ (xs : List Waiting). length xs) c.set.ensures ∙ length-set now k c.free-freed.result ∙ c.loop-at.invariant.size;
+      size = ap (λ (xs : List Waiting). length xs) c.set.ensures ∙ length-set now k c.free-freed.result
+          ∙ c.loop-at.invariant.size;
       done = c.set.ensures ∙ ap (λ (w : Waiting). set now k w) is ∙ one;
     }

@@ -6,4 +6,5 @@ use Rattle.dsm_model.proofs.deferred.Deferred.has_eligible.Goals as goal
 
 pub returns : goal.returns
 returns c =
-    ap (λ n. nat_lt 0 n) c.self.invariant ∙ some_counted (λ (w : Waiting). w.eligible) c.self.inside.items ∙ ap (λ (ws : List Waiting). has_eligible ws) c.self.view_is
+    ap (λ n. nat_lt 0 n) c.self.invariant ∙ some_counted (λ (w : Waiting). w.eligible) c.self.inside.items
+    ∙ ap (λ (ws : List Waiting). has_eligible ws) c.self.view_is

@@ -11,7 +11,8 @@ block_at-requires c =
     let nodes : List Node = g.locals.items in
     let l : Node = c.index.result.now in
     let at : slice_get nodes c.args.node ≡ Some l =
-    element_at nodes c.from.result c.args.node l (c.from.ensures ∙ c.get.ensures.value) (omega (arith, c.requires.node, g.kept.nodes)) ∙ ap (λ (n : Node). Some n) (sym c.index.ensures) in
+    element_at nodes c.from.result c.args.node l (c.from.ensures ∙ c.get.ensures.value)
+    (omega (arith, c.requires.node, g.kept.nodes)) ∙ ap (λ (n : Node). Some n) (sym c.index.ensures) in
     block_within g.setup.now nodes c.args.node c.args.block l g.kept.sound at c.requires.block
 
 pub returns : goal.returns
@@ -20,5 +21,6 @@ returns c =
     let nodes : List Node = g.locals.items in
     let l : Node = c.index.result.now in
     let at : slice_get nodes c.args.node ≡ Some l =
-    element_at nodes c.from.result c.args.node l (c.from.ensures ∙ c.get.ensures.value) (omega (arith, c.requires.node, g.kept.nodes)) ∙ ap (λ (n : Node). Some n) (sym c.index.ensures) in
+    element_at nodes c.from.result c.args.node l (c.from.ensures ∙ c.get.ensures.value)
+    (omega (arith, c.requires.node, g.kept.nodes)) ∙ ap (λ (n : Node). Some n) (sym c.index.ensures) in
     block_of_node g.setup.now nodes c.args.node c.args.block l c.block_at.result.now at c.block_at.ensures

@@ -8,7 +8,12 @@ loop-made-init c = rw c.new-queues.ensures.items (refl, none_empty)
 
 pub loop-made-preserved : goal.loop-made-preserved
 loop-made-preserved c = (
-  omega (arith, ap length c.in_ok-push.ensures.items, length-append c.loop-made.queues.items (c.new.result ∷ []), c.loop-made.invariant.0),
+  omega (
+    arith,
+    ap length c.in_ok-push.ensures.items,
+    length-append c.loop-made.queues.items (c.new.result ∷ []),
+    c.loop-made.invariant.0,
+  ),
   rw c.in_ok-push.ensures.items (push_empty c.loop-made.queues.items c.new.result c.loop-made.invariant.1 c.new.ensures),
 )
 

@@ -80,7 +80,8 @@ returns-in_default c =
     let m = machine_of p was sent chain in
     let inner : IsInner c.args.op = search rules in
     let does = c.work.ensures.does code sent chain in
-    let kept : OnNext (Kept p m) (act p code c.args.op m) = inner_keeps p code c.args.op m inner c.requires.enough c.requires.sound.arity c.requires.sound.came in
+    let kept : OnNext (Kept p m) (act p code c.args.op m) = inner_keeps p code c.args.op m inner c.requires.enough
+    c.requires.sound.arity c.requires.sound.came in
     let k : OnNext (Kept p m) (Next (machine_of p now sent chain)) = subst (λ (x : Move). OnNext (Kept p m) x) does kept in
     record {
       on = does ∙ ap (λ key. Next (machine_of p now sent (saved_from p store key))) (sym c.work.ensures.cont);

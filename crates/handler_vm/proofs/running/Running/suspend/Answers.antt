@@ -43,17 +43,31 @@ returns-clause-stop c = λ sent.
     let came : IsFull words left.came = rw same c.requires.sound.came in
     let whole : IsWholeRecord words r = record { values = c.saved.ensures.all; args = c.places.ensures.all; came = came } in
     let depth : r.depth ≡ length rs + 1 = ap (λ n. n + 1) c.depth-depth.ensures in
-    let w = wound words old c.save.new.self was.cont c.save.result r c.requires.sound.chain c.save.ensures.was_free c.save.ensures.changes (ap (λ x. x.cont) same) depth c.requires.low whole in
+    let w = wound words old c.save.new.self was.cont c.save.result r c.requires.sound.chain c.save.ensures.was_free
+    c.save.ensures.changes (ap (λ x. x.cont) same) depth c.requires.low whole in
     let rest_is : Some (get_or c.items.result.now c.args.rest no_rest) ≡ slice_get c.args.code.now.rests c.args.rest =
-    sym (ap (λ (rests : List Rest). slice_get rests c.args.rest) (sym c.items.ensures) ∙ slice_get-get_or c.items.result.now c.args.rest no_rest (omega (arith, c.requires.saved, ap length c.items.ensures))) in
-    let values : r.values ≡ filled 21 saved.values = c.saved.ensures.value ∙ ap (λ o. filled 21 (saved_values o left.slots)) rest_is ∙ ap (λ x. filled 21 (saved_values (slice_get c.args.code.now.rests c.args.rest) x.slots)) same in
+    sym (ap (λ (rests : List Rest). slice_get rests c.args.rest) (sym c.items.ensures)
+    ∙ slice_get-get_or c.items.result.now c.args.rest no_rest
+    (omega (arith, c.requires.saved, ap length c.items.ensures))) in
+    let values : r.values ≡ filled 21 saved.values = c.saved.ensures.value
+    ∙ ap (λ o. filled 21 (saved_values o left.slots)) rest_is
+    ∙ ap (λ x. filled 21 (saved_values (slice_get c.args.code.now.rests c.args.rest) x.slots)) same in
     let used : take (length was.args) c.places.result ≡ was.args = rw same at c.places.ensures.used in
     let args : take (state_arity (slice_get p.states left.state)) c.places.result ≡ was.args =
-    ap (λ x. take (state_arity (slice_get p.states x.state)) c.places.result) same ∙ ap (λ n. take n c.places.result) (sym c.requires.sound.arity) ∙ used in
-    let first : saved_of p r ≡ widened saved = λ j. record { rest = c.args.rest; values = values j; came = (same j).came; state = (same j).state; args = args j } in
+    ap (λ x. take (state_arity (slice_get p.states x.state)) c.places.result) same
+    ∙ ap (λ n. take n c.places.result) (sym c.requires.sound.arity) ∙ used in
+    let first : saved_of p r ≡ widened saved = λ j. record {
+      rest = c.args.rest;
+      values = values j;
+      came = (same j).came;
+      state = (same j).state;
+      args = args j;
+    } in
     let chain : saved_from p c.save.new.self (Some c.save.result) ≡ map widened (saved ∷ saved_from p old was.cont) =
-    ap (map (saved_of p)) w.records ∙ ap (λ s. s ∷ map (saved_of p) rs) first ∙ ap (λ ss. widened saved ∷ ss) (widened_all p words rs c.requires.sound.chain.whole) in
-    let arity : length (reverse (take count was.stack)) ≡ count = length-reverse (take count was.stack) ∙ length-take-le count was.stack c.requires.enough in
+    ap (map (saved_of p)) w.records ∙ ap (λ s. s ∷ map (saved_of p) rs) first
+    ∙ ap (λ ss. widened saved ∷ ss) (widened_all p words rs c.requires.sound.chain.whole) in
+    let arity : length (reverse (take count was.stack)) ≡ count = length-reverse (take count was.stack)
+    ∙ length-take-le count was.stack c.requires.enough in
     rw (same, c.take-args.ensures.args, c.state_arity.ensures) (record {
       around = refl;
       state = refl;
@@ -67,4 +81,5 @@ returns-clause-stop c = λ sent.
     })
 
 pub returns-clause-others : goal.returns-clause-others
-returns-clause-others c = λ store was s chain. keeps_saved chain.named s c.requires.sound.chain.named (ap (λ x. x.cont) c.take-args.ensures.rest) c.save.ensures.was_free c.save.ensures.changes
+returns-clause-others c = λ store was s chain. keeps_saved chain.named s c.requires.sound.chain.named
+    (ap (λ x. x.cont) c.take-args.ensures.rest) c.save.ensures.was_free c.save.ensures.changes

@@ -3,4 +3,6 @@ use Rattle.std.proofs.lemmas.List.{length-take-le}
 use Rattle.handler_vm.proofs.values.Args.len.Goals as goal
 
 pub returns-clause-value : goal.returns-clause-value
-returns-clause-value c = rw (← c.self.view_is) (sym (length-take-le c.self.inside.count c.self.inside.values (omega (arith, c.self.invariant.four, c.self.invariant.few))))
+returns-clause-value c =
+    rw (← c.self.view_is)
+    (sym (length-take-le c.self.inside.count c.self.inside.values (omega (arith, c.self.invariant.four, c.self.invariant.few))))

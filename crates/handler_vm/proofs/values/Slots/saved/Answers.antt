@@ -13,7 +13,9 @@ loop-k-preserved c =
     let few : l.k < 21 = omega (arith, low, c.self.invariant.0) in
     elim c.if-is_live.branch [
       | then-is_live w ↦
-          w.values-is ∙ ap (set l.values l.k) w.index-own-k.is ∙ done_kept rest own l.k w.index-own-k.result l.values low few (sym c.is_live.ensures ∙ w.if-is_live.true) l.invariant
+          w.values-is ∙ ap (set l.values l.k) w.index-own-k.is
+          ∙ done_kept rest own l.k w.index-own-k.result l.values low few
+          (sym c.is_live.ensures ∙ w.if-is_live.true) l.invariant
       | else-is_live w ↦
           w.values-is ∙ done_left rest own l.k (Int 0) l.values low few (sym c.is_live.ensures ∙ w.if-is_live.false) l.invariant
     ]
@@ -22,9 +24,12 @@ pub returns-clause-value : goal.returns-clause-value
 returns-clause-value c =
     let low : c.self.inside.width ≤ length c.self.inside.values = omega (arith, c.self.invariant.0, c.self.invariant.1) in
     let e : c.loop-k.k ≡ c.self.inside.width = omega (arith, c.loop-k-test.false, c.loop-k.auto.k-end) in
-    rw (← c.self.view_is) (c.loop-k.invariant ∙ ap (done c.args.rest.now c.self.inside.values) e ∙ done_all c.args.rest.now c.self.inside.values c.self.inside.width low)
+    rw (← c.self.view_is) (c.loop-k.invariant ∙ ap (done c.args.rest.now c.self.inside.values) e
+    ∙ done_all c.args.rest.now c.self.inside.values c.self.inside.width low)
 
 pub returns-clause-all : goal.returns-clause-all
 returns-clause-all c =
-    let low : c.loop-k.k ≤ length c.self.inside.values = omega (arith, c.loop-k.auto.k-end, c.self.invariant.0, c.self.invariant.1) in
-    ap length c.loop-k.invariant ∙ length-done c.args.rest.now c.self.inside.values c.loop-k.k low (omega (arith, low, c.self.invariant.0))
+    let low : c.loop-k.k ≤ length c.self.inside.values = omega
+    (arith, c.loop-k.auto.k-end, c.self.invariant.0, c.self.invariant.1) in
+    ap length c.loop-k.invariant ∙ length-done c.args.rest.now c.self.inside.values c.loop-k.k low
+    (omega (arith, low, c.self.invariant.0))

@@ -6,5 +6,10 @@ use Rattle.handler_vm.proofs.values.Slots.set.Goals as goal
 pub returns : goal.returns
 returns c =
     let s = c.self.inside in
-    let k : c.args.k < s.width = omega (arith, c.requires, ap length c.self.view_is, length-take-le s.width s.values (omega (arith, c.self.invariant.0, c.self.invariant.1))) in
+    let k : c.args.k < s.width = omega (
+      arith,
+      c.requires,
+      ap length c.self.view_is,
+      length-take-le s.width s.values (omega (arith, c.self.invariant.0, c.self.invariant.1)),
+    ) in
     rw (← c.self.view_is, c.from.ensures) (take-set-lt s.width s.values c.args.k c.args.value k)

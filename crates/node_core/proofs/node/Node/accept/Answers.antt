@@ -29,8 +29,10 @@ returns-clause-stands c =
     let n = c.self.inside in
     let m = c.args.m in
     let fit = subst (λ (x : Shown). IsFit x.setup m.from x.me m) (sym c.self.view_is) c.requires.fit in
-    subst (λ (o : Shown). StandsAsBefore o (shown_of n.setup.now n.code.now n.me (record n.state { fronts = c.keep.new.self }))) c.self.view_is
-    (front_standing n.setup.now n.code.now n.me n.state m c.keep.new.self c.keep.ensures.items c.keep.ensures.accepted c.self.invariant
+    subst (λ (o : Shown). StandsAsBefore o (shown_of n.setup.now n.code.now n.me
+    (record n.state { fronts = c.keep.new.self }))) c.self.view_is
+    (front_standing n.setup.now n.code.now n.me n.state m c.keep.new.self c.keep.ensures.items c.keep.ensures.accepted
+    c.self.invariant
     (fit_small n.setup.now n.code.now n.me n.state m c.self.invariant fit)
     (subst (λ (x : Shown). front_at x m.from m.chan ≡ None) (sym c.self.view_is) c.requires.free)
     (subst (λ (x : Shown). m.number ≡ accepted_at x m.from m.chan) (sym c.self.view_is) c.requires.number))

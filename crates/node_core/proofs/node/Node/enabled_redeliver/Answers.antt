@@ -4,4 +4,5 @@ use Rattle.node_meaning.specs.Nodes.{Shown, test_of}
 use Rattle.node_core.proofs.node.Node.enabled_redeliver.Goals as goal
 
 pub returns : goal.returns
-returns c = subst (λ (n : Shown). c.may_redeliver.result ≡ test_of n (event.Redeliver n.me)) c.self.view_is c.may_redeliver.ensures
+returns c = subst (λ (n : Shown). c.may_redeliver.result ≡ test_of n (event.Redeliver n.me)) c.self.view_is
+    c.may_redeliver.ensures

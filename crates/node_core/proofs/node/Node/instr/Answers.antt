@@ -20,5 +20,6 @@ invariant_of-self c = c.instruct.ensures.node
 pub returns : goal.returns
 returns c =
     let n = c.self.inside in
-    subst (λ (o : Shown). Makes o (shown_of n.setup.now n.code.now n.me c.instruct.new.state) None (event.Instr o.me)) c.self.view_is
+    subst (λ (o : Shown). Makes o (shown_of n.setup.now n.code.now n.me c.instruct.new.state) None (event.Instr o.me))
+    c.self.view_is
     c.instruct.ensures.makes

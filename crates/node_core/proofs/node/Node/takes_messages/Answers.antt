@@ -5,5 +5,6 @@ use Rattle.node_core.proofs.node.Node.takes_messages.Goals as goal
 
 pub returns : goal.returns
 returns c =
-    subst (λ (n : Shown). c.takes_messages.result ≡ (may_handle n.setup (tested n) && not (has_eligible n.parts.deferred))) c.self.view_is
+    subst (λ (n : Shown). c.takes_messages.result ≡ (may_handle n.setup (tested n) && not (has_eligible n.parts.deferred)))
+    c.self.view_is
     c.takes_messages.ensures

@@ -8,7 +8,8 @@ use Rattle.std.specs.Vec.{with_items}
 use Rattle.still_nodes.specs.Parts.{Rows, all_of}
 use Rattle.still_nodes.proofs.Fronts.{rows_count}
 use Rattle.still_nodes.proofs.Handed.{passes_none}
-use Rattle.still_nodes.proofs.Written.{IsClear, Moves, busy_if_false, hands_count, may_go, none_out, pops_count, receiver_there, seen, sender_there, went_behind, went_over}
+use Rattle.still_nodes.proofs.Written.{IsClear, Moves, busy_if_false, hands_count, may_go, none_out, pops_count, receiver_there}
+use Rattle.still_nodes.proofs.Written.{seen, sender_there, went_behind, went_over}
 use Rattle.still_nodes.proofs.still.Still.hand_out.Goals as goal
 use Rattle.still_nodes.proofs.still.Still.hand_out.Goals.{then-is_clear, else-is_clear+in_ok-put_behind}
 

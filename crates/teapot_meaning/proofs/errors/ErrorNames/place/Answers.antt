@@ -6,4 +6,5 @@ use Rattle.teapot_meaning.proofs.errors.ErrorNames.place.Goals as goal
 
 pub returns : goal.returns
 returns c =
-    c.get_index_of.ensures.index ∙ key_place (λ v. v.items) c.args.name.now c.self.inside.names.keys ∙ ap (position (λ (n : List ℕ). bytes_eq n c.args.name.now)) c.self.view_is
+    c.get_index_of.ensures.index ∙ key_place (λ v. v.items) c.args.name.now c.self.inside.names.keys
+    ∙ ap (position (λ (n : List ℕ). bytes_eq n c.args.name.now)) c.self.view_is

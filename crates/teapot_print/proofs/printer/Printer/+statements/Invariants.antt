@@ -5,4 +5,5 @@ use Rattle.teapot_print.specs.Printing.{put_lines}
 use Rattle.teapot_print.proofs.printer.Printer.+statements.Given as goal
 
 abbrev pub invariant-statements-stmts : goal.invariant-statements-stmts
-invariant-statements-stmts l = put_lines l.self (body_lines (body_of (drop l.stmt-index l.stmts))) ≡ put_lines l.initial.self (body_lines (body_of l.stmts))
+invariant-statements-stmts l = put_lines l.self (body_lines (body_of (drop l.stmt-index l.stmts)))
+    ≡ put_lines l.initial.self (body_lines (body_of l.stmts))

@@ -5,4 +5,5 @@ use Rattle.teapot_print.specs.Printing.{put_lines}
 use Rattle.teapot_print.proofs.printer.Printer.handlers.Given as goal
 
 abbrev pub invariant-handlers : goal.invariant-handlers
-invariant-handlers l = put_lines l.self (flat_map handler_lines (drop l.handler-index l.handlers)) ≡ put_lines l.initial.self (flat_map handler_lines l.handlers)
+invariant-handlers l = put_lines l.self (flat_map handler_lines (drop l.handler-index l.handlers))
+    ≡ put_lines l.initial.self (flat_map handler_lines l.handlers)

@@ -7,4 +7,5 @@ use Rattle.std.specs.Str.{bytes_eq}
 use Rattle.teapot_rules.proofs.places.Names.new.Given as goal
 
 abbrev pub invariant-loop-at : goal.invariant-loop-at
-invariant-loop-at l = (q : List ℕ) → get_by (λ k. slice_cmp nat_cmp q k.now) l.places ≡ position (λ m. bytes_eq m q) (take l.at l.names)
+invariant-loop-at l = (q : List ℕ) → get_by (λ k. slice_cmp nat_cmp q k.now) l.places
+    ≡ position (λ m. bytes_eq m q) (take l.at l.names)

@@ -12,4 +12,7 @@ returns-clause-bytes c =
     let given = c.copy_from_slice.new.self in
     let is_front : given ≡ take count (drop next bytes) = grind (arith, common_steps) in
     let is_full : length given ≡ count = grind (arith, common_steps) in
-    rw (← c.self.view_is) (drop-given bytes given _ next count is_front is_full, λ none some. drop_all (next + count) bytes (grind (arith, common_steps)))
+    rw (← c.self.view_is) (
+      drop-given bytes given _ next count is_front is_full,
+      λ none some. drop_all (next + count) bytes (grind (arith, common_steps)),
+    )

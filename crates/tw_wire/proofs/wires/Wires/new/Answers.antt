@@ -8,4 +8,5 @@ returns c =
     let made = c.loop-from.made in
     let all : c.loop-from.from ≡ c.args.n = omega arith in
     let rows = subst (λ (k : ℕ). AreRows c.args.n k made.rows made.sends made.recvs.items) all c.loop-from.invariant in
-    rows-new c.args.n made.rows made.sends made.recvs.items c.in_ok-ends.ends.items rows c.in_ok-ends.ensures.sends c.in_ok-ends.ensures.recvs
+    rows-new c.args.n made.rows made.sends made.recvs.items c.in_ok-ends.ends.items rows c.in_ok-ends.ensures.sends
+    c.in_ok-ends.ensures.recvs
