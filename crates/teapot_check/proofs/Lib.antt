@@ -1,5 +1,9 @@
 pub mod Fitting
 pub mod Gathering
+pub mod Kept
 pub mod Naming
+pub mod Passed
 pub mod Ruled
+pub mod Tables
+pub mod Typing
 pub mod Walking

@@ -1,21 +1,22 @@
-ghost use Rattle.std.specs.Prelude.{◌≡◌, map, IfOk};
+ghost use Rattle.std.specs.Prelude.{◌≡◌, IfOk};
 ghost use Rattle.std.specs.List.{flat_map};
 ghost use Rattle.teapot_tree.specs.declared.protocol.State.{State};
 ghost use Rattle.teapot_tree.specs.Grammar.{IsTree};
 ghost use Rattle.teapot_check.specs.Answering.{IsAnswer};
-ghost use Rattle.teapot_check.specs.Handlers.{scopes_in};
+ghost use Rattle.teapot_check.specs.Handlers.{BreakAlike, lines_in};
 ghost use Rattle.teapot_rules.specs.Deeds.{scope_of};
-ghost use Rattle.teapot_rules.specs.Faults.{again_handlers, again_messages, again_params, again_states, body_lines};
+ghost use Rattle.teapot_rules.specs.Faults.{again_handlers, again_messages, again_params, again_states};
 ghost use Rattle.teapot_rules.specs.Faults.{handler_lines, lines};
 ghost use Rattle.teapot_rules.specs.Firsts.{all_rules, first_of_rules, last_rules, sooner};
 ghost use Rattle.teapot_rules.specs.Lists.{least, lesser};
 
 use crate::again::{again, again_named};
-use crate::handlers::scopes_in;
-use crate::walk::walk;
+use crate::handlers::sights_in;
+use crate::sight::Sight;
+use crate::walk::body_line;
 use std::alloc::Global;
 use teapot_rules::{
-    Fault, Scope, answers_undeclared, clashing_conts, counts_wrongly, line_if, most, sooner,
+    Fault, answers_undeclared, clashing_conts, counts_wrongly, line_if, most, sooner,
     undeclared_starts, visible_names, without_default, wrong_starts,
 };
 use teapot_tree::{Checked, Protocol, Rule, State};
@@ -42,55 +43,47 @@ fn second_handlers(states: &[State]) -> Option<u32>
     least
 }
 
-/// The least line of a statement of the handler that breaks the rule.
-#[tactic(auto, using(teapot_rules::proofs::Ruling::walk_lines))]
-fn body_line(scope: &Scope, rule: Rule) -> Option<u32>
-    ensures { result ≡ least (body_lines rule (scope_of scope.now)) }
-{
-    walk(scope, rule, scope.handler.body.items(), false, false)
-}
-
 /// The least line of the handler at which it breaks the rule.
-fn handler_line(alloc: Global, scope: &Scope, rule: Rule) -> Result<Option<u32>, Memory>
-    ensures { IfOk result (λ l. l ≡ least (handler_lines rule (scope_of scope.now))) }
+fn handler_line(alloc: Global, sight: &Sight, rule: Rule) -> Result<Option<u32>, Memory>
+    ensures { IfOk result (λ l. l ≡ least (handler_lines rule (scope_of sight.now.scope))) }
 {
-    let h = scope.handler;
+    let h = sight.scope.handler;
     match rule {
         Rule::Undeclared => {
-            let own = line_if(answers_undeclared(scope.protocol, &h.on), h.line);
-            Ok(lesser(own, body_line(scope, rule)))
+            let own = line_if(answers_undeclared(sight.scope.protocol, &h.on), h.line);
+            Ok(lesser(own, body_line(sight, rule)))
         }
         Rule::Twice => {
-            let names = visible_names(alloc, scope)?;
+            let names = visible_names(alloc, &sight.scope)?;
             let later = again_named(alloc, names.items())?;
-            Ok(lesser(later, body_line(scope, rule)))
+            Ok(lesser(later, body_line(sight, rule)))
         }
         Rule::ArgCount => {
             let own = line_if(
-                counts_wrongly(scope.protocol, &h.on, h.args.items()),
+                counts_wrongly(sight.scope.protocol, &h.on, h.args.items()),
                 h.line,
             );
-            Ok(lesser(own, body_line(scope, rule)))
+            Ok(lesser(own, body_line(sight, rule)))
         }
         Rule::NoDefault => Ok(None),
         Rule::TooManySends => Ok(line_if(most(h.body.items()) > 32, h.line)),
         Rule::NotTwoStarts => Ok(None),
-        Rule::WrongType => Ok(body_line(scope, rule)),
-        Rule::ContDropped => Ok(body_line(scope, rule)),
-        Rule::ResumeNotLast => Ok(body_line(scope, rule)),
-        Rule::ResumeForeign => Ok(body_line(scope, rule)),
-        Rule::AfterSuspend => Ok(body_line(scope, rule)),
-        Rule::NoData => Ok(body_line(scope, rule)),
+        Rule::WrongType => Ok(body_line(sight, rule)),
+        Rule::ContDropped => Ok(body_line(sight, rule)),
+        Rule::ResumeNotLast => Ok(body_line(sight, rule)),
+        Rule::ResumeForeign => Ok(body_line(sight, rule)),
+        Rule::AfterSuspend => Ok(body_line(sight, rule)),
+        Rule::NoData => Ok(body_line(sight, rule)),
     }
 }
 
 /// The least line of a handler at which it breaks the rule.
-fn in_handlers(alloc: Global, scopes: &[Scope], rule: Rule) -> Result<Option<u32>, Memory>
-    ensures { IfOk result (λ l. l ≡ least (flat_map (λ c. handler_lines rule (scope_of c)) scopes.now)) }
+fn in_handlers(alloc: Global, sights: &[Sight], rule: Rule) -> Result<Option<u32>, Memory>
+    ensures { IfOk result (λ l. l ≡ least (lines_in rule sights.now)) }
 {
     let mut least = None;
-    for scope in scopes {
-        least = lesser(least, handler_line(alloc, scope, rule)?);
+    for sight in sights {
+        least = lesser(least, handler_line(alloc, sight, rule)?);
     }
     Ok(least)
 }
@@ -109,13 +102,13 @@ fn twice_declared(p: &Protocol) -> Option<u32>
 fn first_line(
     alloc: Global,
     p: &Protocol,
-    scopes: &[Scope],
+    sights: &[Sight],
     rule: Rule,
 ) -> Result<Option<u32>, Memory>
-    requires { map scope_of scopes.now ≡ scopes_in p.now }
+    requires { BreakAlike p.now sights.now }
     ensures { IfOk result (λ l. l ≡ least (lines p.now rule)) }
 {
-    let inner = in_handlers(alloc, scopes, rule)?;
+    let inner = in_handlers(alloc, sights, rule)?;
     let states = p.states.items();
     match rule {
         Rule::Undeclared => Ok(lesser(undeclared_starts(p, p.starts.items()), inner)),
@@ -143,42 +136,42 @@ fn first_line(
 fn or_earlier(
     alloc: Global,
     p: &Protocol,
-    scopes: &[Scope],
+    sights: &[Sight],
     rule: Rule,
     later: Option<Fault>,
 ) -> Result<Option<Fault>, Memory>
-    requires { map scope_of scopes.now ≡ scopes_in p.now }
+    requires { BreakAlike p.now sights.now }
     ensures { IfOk result (λ f. f ≡ sooner (least (lines p.now rule)) rule later) }
 {
-    let line = first_line(alloc, p, scopes, rule)?;
+    let line = first_line(alloc, p, sights, rule)?;
     Ok(sooner(line, rule, later))
 }
 
 /// The last six rules.
-fn first_of_last(alloc: Global, p: &Protocol, scopes: &[Scope]) -> Result<Option<Fault>, Memory>
-    requires { map scope_of scopes.now ≡ scopes_in p.now }
+fn first_of_last(alloc: Global, p: &Protocol, sights: &[Sight]) -> Result<Option<Fault>, Memory>
+    requires { BreakAlike p.now sights.now }
     ensures { IfOk result (λ f. f ≡ first_of_rules p.now last_rules) }
 {
-    let first = or_earlier(alloc, p, scopes, Rule::NotTwoStarts, None)?;
-    let first = or_earlier(alloc, p, scopes, Rule::TooManySends, first)?;
-    let first = or_earlier(alloc, p, scopes, Rule::NoData, first)?;
-    let first = or_earlier(alloc, p, scopes, Rule::AfterSuspend, first)?;
-    let first = or_earlier(alloc, p, scopes, Rule::ResumeForeign, first)?;
-    or_earlier(alloc, p, scopes, Rule::ResumeNotLast, first)
+    let first = or_earlier(alloc, p, sights, Rule::NotTwoStarts, None)?;
+    let first = or_earlier(alloc, p, sights, Rule::TooManySends, first)?;
+    let first = or_earlier(alloc, p, sights, Rule::NoData, first)?;
+    let first = or_earlier(alloc, p, sights, Rule::AfterSuspend, first)?;
+    let first = or_earlier(alloc, p, sights, Rule::ResumeForeign, first)?;
+    or_earlier(alloc, p, sights, Rule::ResumeNotLast, first)
 }
 
 fn first_fault(alloc: Global, p: &Protocol) -> Result<Option<Fault>, Memory>
     ensures { IfOk result (λ f. f ≡ first_of_rules p.now all_rules) }
 {
-    let scopes = scopes_in(alloc, p)?;
-    let scopes = scopes.items();
-    let first = first_of_last(alloc, p, scopes)?;
-    let first = or_earlier(alloc, p, scopes, Rule::ContDropped, first)?;
-    let first = or_earlier(alloc, p, scopes, Rule::NoDefault, first)?;
-    let first = or_earlier(alloc, p, scopes, Rule::ArgCount, first)?;
-    let first = or_earlier(alloc, p, scopes, Rule::WrongType, first)?;
-    let first = or_earlier(alloc, p, scopes, Rule::Twice, first)?;
-    or_earlier(alloc, p, scopes, Rule::Undeclared, first)
+    let sights = sights_in(alloc, p)?;
+    let sights = sights.items();
+    let first = first_of_last(alloc, p, sights)?;
+    let first = or_earlier(alloc, p, sights, Rule::ContDropped, first)?;
+    let first = or_earlier(alloc, p, sights, Rule::NoDefault, first)?;
+    let first = or_earlier(alloc, p, sights, Rule::ArgCount, first)?;
+    let first = or_earlier(alloc, p, sights, Rule::WrongType, first)?;
+    let first = or_earlier(alloc, p, sights, Rule::Twice, first)?;
+    or_earlier(alloc, p, sights, Rule::Undeclared, first)
 }
 
 /// An accepted protocol unchanged, or its first break.

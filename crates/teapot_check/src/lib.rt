@@ -6,6 +6,11 @@ mod again;
 mod checker;
 mod fits;
 mod handlers;
+mod noted;
+mod passing;
+mod sight;
+mod types;
+mod variables;
 mod walk;
 
 pub use checker::{CheckError, check};

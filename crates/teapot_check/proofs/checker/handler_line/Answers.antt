@@ -9,11 +9,11 @@ use Rattle.teapot_check.proofs.checker.handler_line.Goals as goal
 
 pub returns-in_ok-later-in-Twice : goal.returns-in_ok-later-in-Twice
 returns-in_ok-later-in-Twice c =
-    let names : c.in_ok-later-in-Twice.later ≡ least (again_names (visible_names (scope_of c.args.scope.now))) =
+    let names : c.in_ok-later-in-Twice.later ≡ least (again_names (visible_names (scope_of c.args.sight.now.scope))) =
     c.in_ok-later-in-Twice.ensures ∙ ap (λ z. least (again_names z)) (c.items.ensures ∙ c.in_ok-names-in-Twice.ensures) in
-    let body : c.body_line-in-Twice.result ≡ least (body_lines Twice (scope_of c.args.scope.now)) =
-    c.body_line-in-Twice.ensures ∙ ap (λ z. least (body_lines z (scope_of c.args.scope.now))) c.in-Twice.is in
-    let rule = ap (λ z. least (handler_lines z (scope_of c.args.scope.now))) c.in-Twice.is in
-    let both = least-append (again_names (visible_names (scope_of c.args.scope.now)))
-    (body_lines Twice (scope_of c.args.scope.now)) in
+    let body : c.body_line-in-Twice.result ≡ least (body_lines Twice (scope_of c.args.sight.now.scope)) =
+    c.body_line-in-Twice.ensures ∙ ap (λ z. least (body_lines z (scope_of c.args.sight.now.scope))) c.in-Twice.is in
+    let rule = ap (λ z. least (handler_lines z (scope_of c.args.sight.now.scope))) c.in-Twice.is in
+    let both = least-append (again_names (visible_names (scope_of c.args.sight.now.scope)))
+    (body_lines Twice (scope_of c.args.sight.now.scope)) in
     cc

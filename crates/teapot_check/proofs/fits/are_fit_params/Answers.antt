@@ -9,7 +9,7 @@ use Rattle.teapot_check.proofs.fits.are_fit_params.Goals as goal
 pub returns-then-not-is_fit : goal.returns-then-not-is_fit
 returns-then-not-is_fit c =
     let types = map (λ (a : Param). a.ty) c.args.params.now in
-    let f = type_in (scope_of c.args.scope.now) in
+    let f = type_in (scope_of c.args.sight.now.scope) in
     let misses : is_fit (slice_get types c.loop-at.at) (f c.index-args-at.result) ≡ false = cc in
     fit_here types f c.args.args.now c.loop-at.at c.index-args-at.result c.loop-at-test.true c.index-args-at.is
     c.loop-at.invariant misses
@@ -17,7 +17,7 @@ returns-then-not-is_fit c =
 pub loop-at-preserved : goal.loop-at-preserved
 loop-at-preserved c =
     let types = map (λ (a : Param). a.ty) c.args.params.now in
-    let f = type_in (scope_of c.args.scope.now) in
+    let f = type_in (scope_of c.args.sight.now.scope) in
     let fits : is_fit (slice_get types c.loop-at.at) (f c.index-args-at.result) ≡ true = cc in
     fit_past types f c.args.args.now c.loop-at.at c.index-args-at.result c.loop-at-test.true c.index-args-at.is
     c.loop-at.invariant fits

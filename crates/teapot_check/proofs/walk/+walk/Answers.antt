@@ -13,7 +13,7 @@ use Rattle.teapot_check.proofs.walk.+walk.Goals as goal
 pub walk-loop-at-preserved : goal.walk-loop-at-preserved
 walk-loop-at-preserved t c =
     let one = comes_first c.args.rule in
-    let test = breaks_at (scope_of c.args.scope.now) c.args.rule in
+    let test = breaks_at (scope_of c.args.sight.now.scope) c.args.rule in
     let e = walk_more one test c.args.stmts.now c.loop-at.at c.index-stmts-at.result c.loop-at.came c.args.more
     (least (walk one test (body_of c.args.stmts.now) c.args.had c.args.more))
     c.loop-at.least c.walk_in.result c.loop-at-test.true c.index-stmts-at.is c.loop-at.invariant c.walk_in.ensures in
@@ -22,7 +22,7 @@ walk-loop-at-preserved t c =
 pub walk_in-returns-in-Some : goal.walk_in-returns-in-Some
 walk_in-returns-in-Some t c =
     let one = comes_first c.args.rule in
-    let test = breaks_at (scope_of c.args.scope.now) c.args.rule in
+    let test = breaks_at (scope_of c.args.sight.now.scope) c.args.rule in
     let what = c.args.stmt.now.what in
     let is = ap out-Do (c.in-If.is ∙ sym (v.rolls-If c.in-If.field-0 c.in-If.first c.in-If.second))
     ∙ out-roll-Do (Do-F.If c.in-If.field-0 c.in-If.first c.in-If.second)

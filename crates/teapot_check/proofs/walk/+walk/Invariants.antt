@@ -7,6 +7,6 @@ use Rattle.teapot_check.proofs.walk.+walk.Given as goal
 
 abbrev pub invariant-walk-loop-at : goal.invariant-walk-loop-at
 invariant-walk-loop-at l =
-    least (walk (comes_first l.rule) (breaks_at (scope_of l.scope) l.rule) (body_of l.stmts) l.had l.more)
+    least (walk (comes_first l.rule) (breaks_at (scope_of l.sight.scope) l.rule) (body_of l.stmts) l.had l.more)
     ≡ lesser l.least
-    (least (walk (comes_first l.rule) (breaks_at (scope_of l.scope) l.rule) (body_of (drop l.at l.stmts)) l.came l.more))
+    (least (walk (comes_first l.rule) (breaks_at (scope_of l.sight.scope) l.rule) (body_of (drop l.at l.stmts)) l.came l.more))
