@@ -1,4 +1,4 @@
-ghost use Rattle.std.specs.Prelude.{◌≡◌, [], ◌∷◌, ◌++◌, IfOk, length};
+ghost use Rattle.std.specs.Prelude.{◌≡◌, [], ◌∷◌, ◌++◌, IfOk, OnOk, length};
 ghost use Rattle.compiled_meaning.specs.Compiled.{loops_by, loops_in, rests_by, rests_in};
 
 use crate::numbers::sum;
@@ -81,6 +81,19 @@ impl Ops {
             loops: _,
         } = self;
         ops
+    }
+
+    /// Adds an op.
+    pub fn push(&mut self, op: OpCode) -> Result<(), Memory>
+        ensures { OnOk result (self.new ≡ self.old ++ op ∷ []) }
+    {
+        let _none: Option<Value> = None;
+        let rests = with_rest(self.rests, &op)?;
+        let loops = with_loop(self.loops, &op)?;
+        self.ops.push(op)?;
+        self.rests = rests;
+        self.loops = loops;
+        Ok(())
     }
 
     /// These ops and one more.

@@ -5,7 +5,7 @@ ghost use Rattle.handler_code.specs.declared.code.OpCode.{OpCode};
 ghost use Rattle.compiled_meaning.specs.Compiled.{all_code, code_of, do_code, each_code, expr_code, op_list, stmt_code};
 ghost use Rattle.compiled_meaning.specs.Follows.{put_op, slot_of};
 
-use crate::exprs::{all_ops, expr_ops, info, put, slot};
+use crate::exprs::{add_exprs, add_put, expr_ops, slot};
 use crate::numbers::{place, small, sum};
 use crate::ops::Ops;
 use crate::start::Start;
@@ -121,9 +121,9 @@ fn assign_ops(
     ensures { IfOk result (λ ops. ops ≡ expr_code p.now names.now e.now
         ++ op_list (put_op (slot_of names.now name.now) (info_number p.now name.now))) }
 {
-    let ops = expr_ops(alloc, p, names, e)?;
-    let name = name.bytes();
-    ops.then(put(alloc, slot(names, name), info(p, name))?)
+    let mut ops = expr_ops(alloc, p, names, e)?;
+    add_put(&mut ops, p, names, name.bytes())?;
+    Ok(ops)
 }
 
 /// A receiver, the arguments, and an op that takes them.
@@ -137,8 +137,9 @@ fn send_ops(
 ) -> Result<Ops, Memory>
     ensures { IfOk result (λ ops. ops ≡ expr_code p.now names.now to.now ++ (all_code p.now names.now args.now ++ op ∷ [])) }
 {
-    let to = expr_ops(alloc, p, names, to)?;
-    to.then(args_ops(alloc, p, names, args, op)?)
+    let mut ops = expr_ops(alloc, p, names, to)?;
+    add_exprs(&mut ops, p, names, args.items())?;
+    ops.with(op)
 }
 
 /// The arguments, and an op that takes them.
@@ -151,7 +152,9 @@ fn args_ops(
 ) -> Result<Ops, Memory>
     ensures { IfOk result (λ ops. ops ≡ all_code p.now names.now args.now ++ op ∷ []) }
 {
-    all_ops(alloc, p, names, args.items())?.with(op)
+    let mut ops = Ops::new(alloc);
+    add_exprs(&mut ops, p, names, args.items())?;
+    ops.with(op)
 }
 
 /// A loop: its set is put into a slot, and each turn begins at `start`.
