@@ -15,7 +15,7 @@ use Rattle.block_spots.specs.Cases.{CacheInv, NoRest}
 use Rattle.block_spots.specs.Views.{state_numbered}
 use Rattle.stache_table.specs.Blocks.{number_of}
 use Rattle.stache_check.specs.declared.directory.Directory.{Directory}
-use Rattle.stache_check.specs.declared.directory.Directory.TheVariants.{Stache, StacheD}
+use Rattle.stache_check.specs.declared.directory.Directory.TheVariants.{Stache, StacheD, StacheL}
 use Rattle.block_reads.specs.Tables.{reads_under}
 use Rattle.block_reads.specs.Whose.{opt}
 use Rattle.stache_table.specs.Runs.{alone, cont_of, state_val, cont_if, Later}
@@ -120,6 +120,7 @@ past n h = ap number_of (past_state n h)
 pub reads_none : (d : Directory) → reads_under d None ≡ NoRest
 reads_none Stache = refl
 reads_none StacheD = refl
+reads_none StacheL = refl
 
 pub ruleset parts = (alone-parts, cont-parts)
 

@@ -3,10 +3,11 @@ use Rattle.std.specs.Prelude.{ℕ, ◌≡◌, Option, Some, None}
 use Rattle.block_spots.specs.Cases as cases
 use Rattle.teapot_meaning.specs.declared.state.Cont.{Cont, out-Cont}
 use Rattle.teapot_meaning.specs.declared.state.StateVal.{StateVal, out-StateVal}
-use Rattle.stache_table.specs.Blocks.{left_of, number_of, src}
+use Rattle.stache_table.specs.Blocks.{left_of, number_of}
 use Rattle.stache_table.specs.Runs.{cont_of, state_val}
 use Rattle.block_spots.specs.Views.{state_numbered}
-use Rattle.block_reads.specs.Tables.{later_under, reads_under, rest_under}
+use Rattle.stache_l_table.specs.Blocks.{chosen_of, second_in}
+use Rattle.block_reads.specs.Tables.{later_under, reads_under, rest_under, vars_under}
 use Rattle.stache_check.specs.declared.directory.Directory.{Directory}
 use Rattle.stache_check.specs.declared.protocol.Place.{Place}
 use Rattle.stache_check.specs.declared.protocol.Place.TheVariants as pl
@@ -36,7 +37,12 @@ rest_in wh.OfCache = cases.OfCache
 -- what this state's handler saves for the node, restoring what this continuation restores
 abbrev pub saved_at : Directory → cases.State → cases.Rest → ℕ → Cont → Cont
 saved_at d s r node k =
-    cont_of (record { rest = rest_under d s r; vars = src node; came = None; state = (out-StateVal (out-Cont k).saved).state })
+    cont_of (record {
+      rest = rest_under d s r;
+      vars = vars_under d s r node (second_in (out-Cont k).vars);
+      came = None;
+      state = (out-StateVal (out-Cont k).saved).state;
+    })
 
 abbrev pub opt : {X Y : Type 0} → (X → Y) → Option X → Option Y
 opt f (Some x) = Some (f x)
@@ -50,5 +56,5 @@ IsPlace n p = (number_of (state_in p) ≡ n) × (state_in p ≡ state_numbered n
 abbrev pub told_val : Directory → ℕ → StateVal → StateVal
 told_val d me s =
     state_val (number_of (state_numbered (out-StateVal s).state))
-    (later_under d me (state_numbered (out-StateVal s).state) (left_of (out-StateVal s).cont)
+    (later_under d me (state_numbered (out-StateVal s).state) (left_of (out-StateVal s).cont) (chosen_of (out-StateVal s).cont)
     (reads_under d (out-StateVal s).cont))

@@ -1,6 +1,6 @@
-//! What is read of a block as it stands at a node, under Stache and under Stache_D: its state, whose request its continuation
-//! serves, and whether the block is one of the protocol's, its continuation whole. A further protocol gives its table in
-//! `specs/Tables` and a case where a function takes a `Directory`.
+//! What is read of a block as it stands at a node, under Stache, Stache_D and Stache_L: its state, whose request its
+//! continuation serves, and whether the block is one of the protocol's, its continuation whole. A further protocol gives its
+//! table in `specs/Tables` and a case where a function takes a `Directory`.
 #![tactic(auto)]
 
 mod literal;

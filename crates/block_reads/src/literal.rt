@@ -5,6 +5,7 @@ ghost use Rattle.teapot_meaning.specs.Bare.{bare_cont, bare_val};
 ghost use Rattle.teapot_meaning.specs.Steps.{node_of, set_of};
 ghost use Rattle.stache_table.specs.Blocks.{left_of};
 ghost use Rattle.stache_table.specs.Runs.{cont_if};
+ghost use Rattle.stache_l_table.specs.Blocks.{chosen_of};
 ghost use Rattle.block_reads.specs.Tables.{IsLiteralUnder, later_under, reads_under};
 ghost use Rattle.block_reads.specs.Whose.{IsPlace, opt, state_in, told_val};
 
@@ -52,7 +53,7 @@ fn are_infos(infos: &[Value]) -> bool
 #[tactic(auto, using(crate::proofs::Layers::reads_none))]
 fn is_cont(cont: &Option<Boxed<Cont>>, directory: Directory, place: Place, me: NodeId) -> bool
     ensures { IsTrue result ↔ (opt bare_cont cont.now ≡ cont_if
-        (later_under directory me (state_in place) (left_of cont.now) (reads_under directory cont.now))) }
+        (later_under directory me (state_in place) (left_of cont.now) (chosen_of cont.now) (reads_under directory cont.now))) }
 {
     let whose = rest_under(directory, cont);
     match cont {
@@ -94,6 +95,9 @@ pub fn is_literal(directory: Directory, here: &Here) -> bool
         }
         Directory::StacheD => {
             is_state(&here.state, Directory::StacheD, here.me) && are_infos(here.infos.items())
+        }
+        Directory::StacheL => {
+            is_state(&here.state, Directory::StacheL, here.me) && are_infos(here.infos.items())
         }
     }
 }

@@ -3,12 +3,13 @@ ghost use Rattle.teapot_tree.specs.Bare.{bare_all};
 ghost use Rattle.stache_tree.specs.Code.{stmts_of};
 ghost use Rattle.stache_table.specs.Blocks.{rest_at};
 ghost use Rattle.stache_d_table.specs.Blocks as table_d;
+ghost use Rattle.stache_l_table.specs.Blocks as table_l;
 ghost use Rattle.block_reads.specs.Tables.{rest_under};
 ghost use Rattle.block_reads.specs.Whose.{rest_in, state_in};
 
 use crate::Whose;
 use stache_check::{Atom, Directory, Place, Plain, Term, Word, are_plain};
-use teapot_tree::Stmt;
+use teapot_tree::{Op, Stmt};
 use tw_base::Tag;
 
 /// Whether these are the statements that this state and continuation of Stache leave to be done, line numbers aside.
@@ -103,6 +104,26 @@ fn is_rest_of_d(rest: &[Stmt], place: Place, whose: Whose) -> bool
     }
 }
 
+/// Whether these are the statements that a state and continuation of Stache_L leave to be done: a reader that waited for the
+/// copy of another becomes a sharer beside the one that stayed.
+fn is_rest_of_l(rest: &[Stmt], place: Place, whose: Whose) -> bool
+    ensures { IsTrue result ↔ (bare_all rest.now ≡ stmts_of (table_l.rest_at (state_in place) (rest_in whose))) }
+{
+    match (place, whose) {
+        (Place::HomeAcks, Whose::OfRo(_)) => are_plain(
+            rest,
+            &[
+                Plain::Assign(
+                    Word::Sharers,
+                    Term::Two(Op::With, Atom::Var(Word::Sharers), Atom::Src),
+                ),
+                Plain::Send(Atom::Src, Word::DataRo),
+            ],
+        ),
+        _ => is_rest_of_stache(rest, place, whose),
+    }
+}
+
 /// Whether these are the statements that this state and continuation leave to be done, line numbers aside.
 pub fn is_rest(directory: Directory, rest: &[Stmt], place: Place, whose: Whose) -> bool
     ensures { IsTrue result ↔ (bare_all rest.now ≡ stmts_of (rest_under directory (state_in place) (rest_in whose))) }
@@ -110,5 +131,6 @@ pub fn is_rest(directory: Directory, rest: &[Stmt], place: Place, whose: Whose) 
     match directory {
         Directory::Stache => is_rest_of_stache(rest, place, whose),
         Directory::StacheD => is_rest_of_d(rest, place, whose),
+        Directory::StacheL => is_rest_of_l(rest, place, whose),
     }
 }

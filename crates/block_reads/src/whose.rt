@@ -5,8 +5,9 @@ ghost use Rattle.teapot_meaning.specs.declared.state.Cont.{out-Cont};
 ghost use Rattle.stache_table.specs.Blocks.{reads, rest_from, sender_in, src};
 ghost use Rattle.stache_table.specs.Runs.{alone};
 ghost use Rattle.stache_d_table.specs.Blocks as table_d;
+ghost use Rattle.stache_l_table.specs.Blocks.{second_in, src_and};
 ghost use Rattle.teapot_tree.specs.declared.expr.Expr.{out-Expr};
-ghost use Rattle.block_reads.specs.Tables.{reads_under};
+ghost use Rattle.block_reads.specs.Tables.{reads_under, vars_of_l, vars_under};
 ghost use Rattle.block_reads.specs.Whose.{rest_in, saved_at, state_in};
 
 use crate::is_rest;
@@ -122,6 +123,7 @@ pub fn rest_under(directory: Directory, cont: &Option<Boxed<Cont>>) -> Whose
     match directory {
         Directory::Stache => rest_read(cont),
         Directory::StacheD => rest_read_d(cont),
+        Directory::StacheL => rest_read(cont),
     }
 }
 
@@ -131,6 +133,41 @@ fn is_src(vars: &[Bound], node: NodeId) -> bool
     match vars {
         [only] => only.name.is(b"src") && only.value == Value::Node(node),
         _ => false,
+    }
+}
+
+/// Whether they are a sender, this one, and a node that was chosen.
+fn is_src_and(vars: &[Bound], node: NodeId) -> bool
+    ensures { IsTrue result ↔ (vars.now ≡ src_and node (second_in vars.now)) }
+{
+    match vars {
+        [first, second] => {
+            first.name.is(b"src")
+                && first.value == Value::Node(node)
+                && second.name.is(b"x")
+                && matches!(second.value, Value::Node(_))
+        }
+        _ => false,
+    }
+}
+
+/// Whether they are the variables that a state and continuation of Stache_L have.
+fn are_vars_of_l(vars: &[Bound], place: Place, whose: &Whose, node: NodeId) -> bool
+    ensures { IsTrue result ↔ (vars.now ≡ vars_of_l (state_in place) (rest_in whose.now) node (second_in vars.now)) }
+{
+    match (place, whose) {
+        (Place::HomeAcks, Whose::OfRo(_)) => is_src_and(vars, node),
+        _ => is_src(vars, node),
+    }
+}
+
+fn are_vars(vars: &[Bound], directory: Directory, place: Place, whose: &Whose, node: NodeId) -> bool
+    ensures { IsTrue result ↔ (vars.now ≡ vars_under directory (state_in place) (rest_in whose.now) node (second_in vars.now)) }
+{
+    match directory {
+        Directory::Stache => is_src(vars, node),
+        Directory::StacheD => is_src(vars, node),
+        Directory::StacheL => are_vars_of_l(vars, place, whose, node),
     }
 }
 
@@ -168,7 +205,10 @@ pub fn is_serving(k: &Cont, directory: Directory, place: Place, whose: Whose, no
     ensures { IsTrue result ↔ (bare_cont k.now ≡ saved_at directory (state_in place) (rest_in whose) node k.now) }
 {
     let saved = k.saved.get();
-    if !is_rest(directory, k.rest.items(), place, whose) || !is_src(k.vars.items(), node) {
+    if !are_vars(k.vars.items(), directory, place, &whose, node) {
+        return false;
+    }
+    if !is_rest(directory, k.rest.items(), place, whose) {
         return false;
     }
     has_no_data(&k.came) && is_alone(saved)

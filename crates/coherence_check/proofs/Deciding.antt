@@ -3,7 +3,7 @@ use Rattle.std.proofs.Common.{◌≡◌, Bool, true, false, not, ◌&&◌, ◌||
 use Rattle.std.specs.Bool.{Decides}
 use Rattle.tw_base.specs.declared.message.Chan.{Chan}
 use Rattle.tw_base.specs.declared.message.Chan.TheVariants.{Zero, One}
-use Rattle.coherence_reads.proofs.Lists.{both_so}
+use Rattle.note_reads.proofs.Lists.{both_so}
 
 implied : (a b : Bool) (P Q : Type 0) → Decides a P → Decides b Q → Decides (not a || b) (P → Q)
 implied true true P Q h k = (λ e p. k.0 refl, λ f. refl)

@@ -3,4 +3,3 @@ pub mod Loops
 pub mod Saying
 pub mod Owing
 pub mod Together
-pub mod Breaking

@@ -1,10 +1,12 @@
--- Where a state is not coherent, under Stache and under Stache_D.
-use Rattle.std.specs.Prelude.{◌≡◌, ◌<◌, ℕ}
+-- Where a state is not coherent, under Stache, Stache_D and Stache_L.
+use Rattle.std.specs.Prelude.{◌≡◌, ◌<◌}
 use Rattle.dsm_runs.specs.Setups.{Setup}
 use Rattle.dsm_runs.specs.Worlds.{World}
-use Rattle.coherence_inv.specs.Parts.{Which, IsFirstBreach, rank}
+use Rattle.coherence_frame.specs.Parts.{Which, Wording, IsFirstBreach, rank}
+use Rattle.coherence_inv.specs.Parts as parts
 use Rattle.stache_d_inv.specs.Parts as parts_d
-use Rattle.coherence_check.specs.Under.{InPartsUnder, PartUnder}
+use Rattle.stache_l_inv.specs.Parts as parts_l
+use Rattle.coherence_reads.specs.Directories.{wording_under}
 use Rattle.coherence_check.specs.declared.decide.Broken.{Broken}
 use Rattle.stache_check.specs.declared.directory.Directory.{Directory}
 
@@ -14,18 +16,17 @@ pub record Firstly (P : Which → Type 0) (k : Which) : Type 0 where
   pub before : (j : Which) → rank j < rank k → P j
 
 -- the first part that fails: of the least block, the least
-pub record IsFirstUnder (d : Directory) (s : Setup) (g : World) (b : ℕ) (k : Which) : Type 0 where
-  pub within : b < s.shape.blocks
-  pub breaks : ¬ PartUnder d s g b k
-  pub before : (j : Which) → rank j < rank k → PartUnder d s g b j
-  pub blocks : (c : ℕ) → c < b → InPartsUnder d s g c
+abbrev pub IsBrokenIn : Wording → Setup → World → Broken → Type 0
+IsBrokenIn o s g b = (k : Which) × (rank k ≡ b.part) × IsFirstBreach o s g b.block k
 
 abbrev pub IsBrokenUnder : Directory → Setup → World → Broken → Type 0
-IsBrokenUnder d s g b = (k : Which) × (rank k ≡ b.part) × IsFirstUnder d s g b.block k
+IsBrokenUnder d = IsBrokenIn (wording_under d)
 
--- the same in the words of each protocol
 abbrev pub IsBroken : Setup → World → Broken → Type 0
-IsBroken s g b = (k : Which) × (rank k ≡ b.part) × IsFirstBreach s g b.block k
+IsBroken = IsBrokenIn parts.wording
 
 abbrev pub IsBrokenD : Setup → World → Broken → Type 0
-IsBrokenD s g b = (k : parts_d.Which) × (parts_d.rank k ≡ b.part) × parts_d.IsFirstBreach s g b.block k
+IsBrokenD = IsBrokenIn parts_d.wording
+
+abbrev pub IsBrokenL : Setup → World → Broken → Type 0
+IsBrokenL = IsBrokenIn parts_l.wording

@@ -4,7 +4,7 @@ use Rattle.std.specs.Bool.{Decides}
 use Rattle.block_spots.specs.Sketches.{Loads, Local, Stores}
 use Rattle.coherence_inv.specs.Coherent.{own_rd, own_wr}
 use Rattle.dsm_runs.specs.declared.mode.Mode.TheVariants as mode
-use Rattle.coherence_reads.specs.Counts.{IsCount}
+use Rattle.note_reads.specs.Counts.{IsCount}
 use Rattle.block_reads.specs.Whose.{rest_in, state_in}
 use Rattle.coherence_check.specs.declared.waits.Node.{Node}
 

@@ -1,18 +1,20 @@
 ghost use Rattle.std.specs.Prelude.{◌≡◌, ◌≤◌, ◌<◌, MatchOption, MatchResult};
 ghost use Rattle.std.specs.Bool.{Decides};
+ghost use Rattle.coherence_frame.specs.Parts as frame;
 ghost use Rattle.coherence_inv.specs.Parts.{IsCoherent, Part as Holds};
 ghost use Rattle.stache_d_inv.specs.Parts as parts_d;
+ghost use Rattle.stache_l_inv.specs.Parts as parts_l;
 ghost use Rattle.dsm_model.specs.Globals.{setup_of, world_of};
 ghost use Rattle.block_reads.specs.Tables.{IsProtocol};
-ghost use Rattle.coherence_reads.specs.Seeing.{which, which_d};
-ghost use Rattle.coherence_check.specs.Breaches.{Firstly, IsBroken, IsBrokenD, IsBrokenUnder};
+ghost use Rattle.coherence_reads.specs.Seeing.{which};
+ghost use Rattle.coherence_check.specs.Breaches.{Firstly, IsBroken, IsBrokenD, IsBrokenL, IsBrokenUnder};
 ghost use Rattle.coherence_check.specs.Under.{InPartsUnder, IsCoherentUnder, PartUnder};
 
 use crate::parts::part_holds;
 use crate::reading::blocks;
 use coherence_reads::Part;
 use dsm_model::{Global, Setup};
-use stache_check::{Directory, is_stache, is_stache_d};
+use stache_check::{Directory, is_stache, is_stache_d, is_stache_l};
 use tw_base::BlockId;
 
 /// The block and the part, from 1, at which a state is not coherent.
@@ -86,6 +88,15 @@ pub fn coherent_d(s: &Setup, g: &Global) -> Result<(), Broken>
     decide(g, Directory::StacheD, is_stache_d(s.protocol().protocol()))
 }
 
+/// Whether a state is coherent under Stache_L, and else the first part of the least block that fails. It takes no memory.
+pub fn coherent_l(s: &Setup, g: &Global) -> Result<(), Broken>
+    requires { setup_of g.now ≡ s.now }
+    ensures { MatchResult result (λ _. frame.IsCoherent parts_l.wording s.now (world_of g.now))
+        (λ b. IsBrokenL s.now (world_of g.now) b) }
+{
+    decide(g, Directory::StacheL, is_stache_l(s.protocol().protocol()))
+}
+
 /// Whether a part of coherence under Stache holds of a block.
 pub fn holds(g: &Global, block: BlockId, part: Part) -> bool
     requires { block < (setup_of g.now).shape.blocks }
@@ -98,8 +109,17 @@ pub fn holds(g: &Global, block: BlockId, part: Part) -> bool
 /// Whether a part of coherence under Stache_D holds of a block.
 pub fn holds_d(g: &Global, block: BlockId, part: Part) -> bool
     requires { block < (setup_of g.now).shape.blocks }
-    ensures { Decides result (parts_d.Part (setup_of g.now) (world_of g.now) block (which_d (which part))) }
+    ensures { Decides result (parts_d.Part (setup_of g.now) (world_of g.now) block (which part)) }
 {
     let is_it = is_stache_d(g.setup().protocol().protocol());
     part_holds(g, Directory::StacheD, is_it, block, part)
+}
+
+/// Whether a part of coherence under Stache_L holds of a block.
+pub fn holds_l(g: &Global, block: BlockId, part: Part) -> bool
+    requires { block < (setup_of g.now).shape.blocks }
+    ensures { Decides result (frame.Part parts_l.wording (setup_of g.now) (world_of g.now) block (which part)) }
+{
+    let is_it = is_stache_l(g.setup().protocol().protocol());
+    part_holds(g, Directory::StacheL, is_it, block, part)
 }

@@ -1,5 +1,5 @@
-//! Whether a state of the machine is coherent under Stache or Stache_D, and else the first part of the least block that fails.
-//! What names no protocol stands once, over a `Directory`.
+//! Whether a state of the machine is coherent under Stache, Stache_D or Stache_L, and else the first part of the least block
+//! that fails. What names no protocol stands once, over a `Directory`.
 #![tactic(auto)]
 
 mod decide;
@@ -13,4 +13,4 @@ mod waits;
 mod wire;
 
 pub use coherence_reads::Part;
-pub use decide::{Broken, coherent, coherent_d, holds, holds_d};
+pub use decide::{Broken, coherent, coherent_d, coherent_l, holds, holds_d, holds_l};

@@ -6,11 +6,12 @@ ghost use Rattle.block_spots.specs.Sketches.{Loads, Stores};
 ghost use Rattle.block_spots.specs.Views.{layout, seen_may, seen_message, seen_next};
 ghost use Rattle.coherence_inv.specs.Parts.{EachCache, IsPlaced, seen};
 ghost use Rattle.stache_d_inv.specs.Parts as parts_d;
+ghost use Rattle.stache_l_inv.specs.Parts as parts_l;
 ghost use Rattle.dsm_model.specs.Globals.{setup_of, world_of};
 ghost use Rattle.dsm_model.specs.Views.{local_of};
 ghost use Rattle.dsm_runs.specs.declared.mode.Mode.TheVariants as mode;
 ghost use Rattle.dsm_runs.specs.Setups.{asked, block_of, home_of};
-ghost use Rattle.coherence_reads.specs.Notes.{IsSummary};
+ghost use Rattle.note_reads.specs.Notes.{IsSummary};
 ghost use Rattle.coherence_reads.specs.Seeing.{which};
 ghost use Rattle.coherence_check.specs.Nodes.{HasNone, NodeAt, SendsNone};
 ghost use Rattle.coherence_check.specs.Under.{AtNodeUnder, IsPlacedUnder, seen_under};
@@ -53,12 +54,22 @@ fn is_placed_of_d(here: &Here) -> bool
         && left_fits(place_seen(here.state.state), left_of(&here.state.cont))
 }
 
+/// Whether it is a block of Stache_L with its continuation whole, which restores a state that it may.
+fn is_placed_of_l(here: &Here) -> bool
+    ensures { Decides result (parts_l.IsPlaced here.now) }
+{
+    let _eight = sharers(here.infos.items()).has(here.me);
+    is_literal(Directory::StacheL, here)
+        && left_fits(place_seen(here.state.state), left_of(&here.state.cont))
+}
+
 fn is_placed(directory: Directory, here: &Here) -> bool
     ensures { Decides result (IsPlacedUnder directory here.now) }
 {
     match directory {
         Directory::Stache => is_placed_of_stache(here),
         Directory::StacheD => is_placed_of_d(here),
+        Directory::StacheL => is_placed_of_l(here),
     }
 }
 

@@ -6,7 +6,7 @@ ghost use Rattle.block_spots.specs.Views.{seen_message};
 ghost use Rattle.coherence_inv.specs.Parts.{spots_seen};
 ghost use Rattle.dsm_model.specs.Globals.{setup_of, world_of};
 ghost use Rattle.tw_base.specs.declared.message.Chan.TheVariants.{One};
-ghost use Rattle.coherence_reads.specs.Notes.{note_in};
+ghost use Rattle.note_reads.specs.Notes.{note_in};
 ghost use Rattle.coherence_check.specs.Owing.{AcksFit, owing};
 
 use crate::reading::{home, nodes};

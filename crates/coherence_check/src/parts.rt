@@ -2,12 +2,12 @@ ghost use Rattle.std.specs.Prelude.{ℕ, ◌≡◌, ◌≤◌, ◌<◌, [], map}
 ghost use Rattle.std.specs.Bool.{Decides};
 ghost use Rattle.block_spots.specs.Notes.{kept_notes};
 ghost use Rattle.block_spots.specs.Views.{seen_waiting};
-ghost use Rattle.coherence_inv.specs.Coherent.{Infos, IsHomeState, tag_of};
+ghost use Rattle.coherence_inv.specs.Coherent.{IsHomeState, tag_of};
 ghost use Rattle.coherence_inv.specs.Parts.{First, Second, Third, Fourth, Fifth, Sixth, Seventh, seen};
 ghost use Rattle.dsm_model.specs.Globals.{setup_of, world_of};
 ghost use Rattle.dsm_runs.specs.Setups.{home_of};
 ghost use Rattle.block_reads.specs.Tables.{IsProtocol};
-ghost use Rattle.coherence_reads.specs.Directories.{RestFitsUnder};
+ghost use Rattle.coherence_reads.specs.Directories.{InfosUnder, RestFitsUnder};
 ghost use Rattle.coherence_reads.specs.Seeing.{OwnPlaces, OwnRequests, here_in, which};
 ghost use Rattle.coherence_check.specs.Under.{PartUnder, home_under, spots_under};
 
@@ -16,9 +16,9 @@ use crate::node::nodes_fit;
 use crate::owed::acks_fit;
 use crate::reading::{deferred, home, nodes};
 use crate::spot::{home_at, spot_at};
-use crate::waits::{both, implies};
+use crate::waits::implies;
 use coherence_reads::{
-    Home, Part, are_eligible, are_none_from, infos_fit, is_home, is_settled, own_places,
+    Home, Part, are_eligible, are_none_from, both, infos_fit, is_home, is_settled, own_places,
     own_requests, rest_fits, tag_of,
 };
 use dsm_model::Global;
@@ -126,11 +126,16 @@ fn requests(g: &Global, directory: Directory, block: BlockId) -> bool
 
 fn home_has_infos(g: &Global, directory: Directory, block: BlockId) -> bool
     requires { block < (setup_of g.now).shape.blocks }
-    ensures { Decides result (Infos (setup_of g.now).shape.nodes (home_of (setup_of g.now) block)
+    ensures { Decides result (InfosUnder directory (setup_of g.now).shape.nodes (home_of (setup_of g.now) block)
         (home_under directory (setup_of g.now) (world_of g.now) block).state
         (home_under directory (setup_of g.now) (world_of g.now) block)) }
 {
-    infos_fit(&home_at(g, directory, block), nodes(g), home(g, block))
+    infos_fit(
+        directory,
+        &home_at(g, directory, block),
+        nodes(g),
+        home(g, block),
+    )
 }
 
 fn rows(g: &Global, directory: Directory, block: BlockId) -> bool

@@ -7,13 +7,13 @@ ghost use Rattle.block_spots.specs.Sketches.{Layout, Loads, Local, Stores};
 ghost use Rattle.coherence_inv.specs.Coherent.{HeldFor, IsWaiting, allows_load, allows_store, own_rd, own_wr};
 ghost use Rattle.stache_d_inv.specs.Coherent as words_d;
 ghost use Rattle.dsm_runs.specs.declared.mode.Mode.TheVariants as mode;
-ghost use Rattle.coherence_reads.specs.Counts.{IsCount};
+ghost use Rattle.note_reads.specs.Counts.{IsCount};
 ghost use Rattle.coherence_reads.specs.Directories.{HeldUnder};
 ghost use Rattle.block_reads.specs.Whose.{rest_in, state_in};
 ghost use Rattle.coherence_check.specs.Under.{AtNodeUnder};
 ghost use Rattle.coherence_check.specs.Waits.{IsNode};
 
-use coherence_reads::{Count, Whose, held_home, is_waiting};
+use coherence_reads::{Count, Whose, both, held_home, is_waiting};
 use stache_check::{Directory, Place};
 use tw_base::Tag;
 
@@ -35,12 +35,6 @@ pub struct Node {
     pub wr_fault: Count,
     /// What its continuation serves.
     pub whose: Whose,
-}
-
-pub fn both(first: bool, second: bool) -> bool
-    ensures { result ≡ first && second }
-{
-    first && second
 }
 
 pub fn implies(first: bool, second: bool) -> bool
@@ -95,6 +89,7 @@ fn held_for(directory: Directory, x: &Node) -> bool
     match directory {
         Directory::Stache => held_for_of_stache(x.place, x.loads, x.stores),
         Directory::StacheD => held_for_of_d(x.whose, x.loads, x.stores),
+        Directory::StacheL => held_for_of_stache(x.place, x.loads, x.stores),
     }
 }
 

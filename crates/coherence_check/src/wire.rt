@@ -3,7 +3,7 @@ ghost use Rattle.block_spots.specs.Notes.{notes, of_block};
 ghost use Rattle.block_spots.specs.Views.{seen_message};
 ghost use Rattle.dsm_model.specs.Globals.{setup_of, world_of};
 ghost use Rattle.tw_base.specs.declared.message.Message.{Message as Letter};
-ghost use Rattle.coherence_reads.specs.Notes.{IsSummary};
+ghost use Rattle.note_reads.specs.Notes.{IsSummary};
 ghost use Rattle.coherence_check.specs.Said.{said_to};
 
 use crate::reading::words;

@@ -1,7 +1,6 @@
 pub mod Away
-pub mod Deferring
+pub mod Collecting
 pub mod Elsewhere
-pub mod Lists
 pub mod Members
 pub mod Sets
 pub mod Sorts

@@ -6,8 +6,8 @@ use Rattle.block_spots.specs.Notes.{Note, NRdFault, NWrFault, NGetRo, NGetRw, ND
 use Rattle.block_spots.specs.Notes.{NRecallRo, NPutRo}
 use Rattle.coherence_inv.specs.Parts.{IsDown, IsUp}
 use Rattle.stache_d_inv.specs.Parts as parts_d
-use Rattle.coherence_reads.specs.Notes.{IsOfStache}
-use Rattle.coherence_reads.proofs.Lists.{both_so}
+use Rattle.note_reads.specs.Notes.{IsOfStache}
+use Rattle.note_reads.proofs.Lists.{both_so}
 
 down_as : (w : ℕ) (n : Note) → parts_d.IsDown w n → IsOfStache n → IsDown w n
 down_as w NRdFault p q = p

@@ -8,10 +8,9 @@ use Rattle.block_spots.specs.Notes.{Spot, gets_ro, gets_rw, held_home, held_ro, 
 use Rattle.block_spots.specs.Notes.{is_wr_fault}
 use Rattle.coherence_inv.specs.Coherent.{HasWords, InHomeRoOrAcks, IsCacheState, IsFault, IsGet, OneRequest, tag_of}
 use Rattle.coherence_inv.specs.Parts.{Which, First, Second, Third, Fourth, Fifth, Sixth, Seventh}
-use Rattle.stache_d_inv.specs.Parts as parts_d
-use Rattle.coherence_reads.specs.Counts.{IsCount}
+use Rattle.note_reads.specs.Counts.{IsCount}
 use Rattle.coherence_reads.specs.Directories.{AnsweredUnder, IsDownUnder, IsUpUnder, RestFitsUnder, StandsUnder}
-use Rattle.coherence_reads.specs.Notes.{IsFew, IsSummary}
+use Rattle.note_reads.specs.Notes.{IsFew, IsSummary}
 use Rattle.block_reads.specs.Whose.{rest_in, state_in}
 use Rattle.stache_check.specs.declared.directory.Directory.{Directory}
 use Rattle.coherence_reads.specs.declared.part.Part.{Part}
@@ -95,12 +94,3 @@ which p.Fourth = Fourth
 which p.Fifth = Fifth
 which p.Sixth = Sixth
 which p.Seventh = Seventh
-
-abbrev pub which_d : Which → parts_d.Which
-which_d First = parts_d.First
-which_d Second = parts_d.Second
-which_d Third = parts_d.Third
-which_d Fourth = parts_d.Fourth
-which_d Fifth = parts_d.Fifth
-which_d Sixth = parts_d.Sixth
-which_d Seventh = parts_d.Seventh

@@ -5,19 +5,18 @@ ghost use Rattle.block_spots.specs.Cases.{CacheRo, Here, HomeRw};
 ghost use Rattle.block_spots.specs.Notes as marks;
 ghost use Rattle.coherence_inv.specs.Coherent.{HasWords, InHomeRoOrAcks};
 ghost use Rattle.coherence_inv.specs.Parts.{First, Second, Third, Fourth, Fifth, Sixth};
-ghost use Rattle.coherence_reads.specs.Counts.{IsCount};
+ghost use Rattle.note_reads.specs.Counts.{IsCount};
 ghost use Rattle.coherence_reads.specs.Directories.{AnsweredUnder, IsDownUnder, IsUpUnder};
 ghost use Rattle.stache_check.specs.declared.directory.Directory.{Directory as Protocol};
-ghost use Rattle.coherence_reads.specs.Notes.{IsFew, IsSummary};
+ghost use Rattle.note_reads.specs.Notes.{IsFew, IsSummary};
 ghost use Rattle.coherence_reads.specs.Seeing.{CacheFits, IsOfHome, IsSeen, IsSpot, OwnPlaces, OwnRequests, here_in, which};
 ghost use Rattle.block_reads.specs.Whose.{state_in};
 
-use crate::count::both;
 use crate::standing::stands;
 use crate::states::{
     held_home, held_ro, held_rw, is_cache, is_shared, one_request, rest_fits, tag_of,
 };
-use crate::{Count, Few, Home, OfHome, Part, Seen, Spot, Summary};
+use crate::{Count, Few, Home, OfHome, Part, Seen, Spot, Summary, both};
 use stache_check::{Directory, Place};
 use tw_base::{Data, NodeId};
 
@@ -96,6 +95,7 @@ fn are_down(directory: Directory, notes: &Summary) -> bool
     match directory {
         Directory::Stache => both(notes.downs, notes.shared),
         Directory::StacheD => notes.downs,
+        Directory::StacheL => both(notes.downs, notes.shared),
     }
 }
 
@@ -107,6 +107,7 @@ fn are_up(directory: Directory, notes: &Summary) -> bool
     match directory {
         Directory::Stache => both(notes.ups, notes.shared),
         Directory::StacheD => notes.ups,
+        Directory::StacheL => both(notes.ups, notes.shared),
     }
 }
 
@@ -193,6 +194,7 @@ fn has_answered(directory: Directory, x: &Spot, home: &Home) -> bool
     match directory {
         Directory::Stache => true,
         Directory::StacheD => answered_its_words(x, home),
+        Directory::StacheL => true,
     }
 }
 

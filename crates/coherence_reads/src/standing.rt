@@ -1,18 +1,18 @@
-ghost use Rattle.std.specs.Prelude.{◌≡◌, ◌+◌, ℕ, List, [], ◌∷◌, false};
+ghost use Rattle.std.specs.Prelude.{◌≡◌, ◌+◌, ℕ, List, [], ◌∷◌, true, false};
 ghost use Rattle.std.specs.Bool.{Decides};
 ghost use Rattle.tw_base.specs.NodeSets.{has};
 ghost use Rattle.block_spots.specs.Cases.{Here};
 ghost use Rattle.block_spots.specs.Notes as marks;
 ghost use Rattle.coherence_inv.specs.Coherent.{Answers, Apart, GivesBack, IsAway, IsSharer, Owns, Stands};
 ghost use Rattle.stache_d_inv.specs.Coherent as words_d;
-ghost use Rattle.coherence_reads.specs.Counts.{IsCount};
+ghost use Rattle.stache_l_inv.specs.Coherent as words_l;
+ghost use Rattle.note_reads.specs.Counts.{IsCount};
 ghost use Rattle.coherence_reads.specs.Directories.{StandsUnder};
-ghost use Rattle.coherence_reads.specs.Notes.{IsFew};
+ghost use Rattle.note_reads.specs.Notes.{IsFew};
 ghost use Rattle.block_reads.specs.Whose.{rest_in, state_in};
 ghost use Rattle.coherence_reads.specs.Seeing.{IsOfHome, IsSeen};
 
-use crate::count::both;
-use crate::{Count, Few, Note, Whose};
+use crate::{Count, Few, Note, Whose, both};
 use stache_check::{Directory, Place};
 use tw_base::{NodeId, NodeSet};
 
@@ -246,6 +246,40 @@ fn stands_of_d(home: Place, has: OfHome, x: &Seen) -> bool
     }
 }
 
+/// Whether a cache stands while the home waits for the copy of another than the reader: the sharer that stays is as before.
+fn stands_for_reader(x: &Seen, member: bool, held_ro: Count) -> bool
+    ensures { (s : marks.Spot) (ro wr held : ℕ) → IsSeen x.now s ro wr → IsCount held_ro held →
+        Decides result ((member ≡ true → IsSharer s.state (marks.gets_rw s) s.down × (s.up ≡ []))
+        × (member ≡ false → Answers s.state ro wr (marks.gets_rw s) s.down s.up × (held ≡ 1 → (s.down ≡ []) × (s.up ≡ [])))) }
+{
+    if member {
+        shares(x)
+    } else {
+        stands_acks(x, held_ro)
+    }
+}
+
+/// Whether a cache stands while a home of Stache_L collects acknowledgements, by the request that it serves.
+fn stands_in_acks(x: &Seen, has: OfHome) -> bool
+    ensures { (h : Here) (i : ℕ) (s : marks.Spot) (ro wr : ℕ) → IsSeen x.now s ro wr → IsOfHome has h i →
+        Decides result (words_l.InAcks h.rest h.sharers i s ro wr) }
+{
+    match has.whose {
+        Whose::OfRo(_) => stands_for_reader(x, has.member, has.held_ro),
+        _ => stands_acks(x, has.held_rw),
+    }
+}
+
+fn stands_of_l(home: Place, has: OfHome, x: &Seen) -> bool
+    ensures { (h : Here) (i : ℕ) (s : marks.Spot) (ro wr : ℕ) → IsSeen x.now s ro wr → IsOfHome has h i →
+        Decides result (words_l.Stands (state_in home) h i s ro wr) }
+{
+    match home {
+        Place::HomeAcks => stands_in_acks(x, has),
+        _ => stands_of_stache(home, has, x),
+    }
+}
+
 /// Whether a cache stands as the home's state asks.
 pub fn stands(directory: Directory, home: Place, has: OfHome, x: &Seen) -> bool
     ensures { (h : Here) (i : ℕ) (s : marks.Spot) (ro wr : ℕ) → IsSeen x.now s ro wr → IsOfHome has h i →
@@ -254,6 +288,7 @@ pub fn stands(directory: Directory, home: Place, has: OfHome, x: &Seen) -> bool
     match directory {
         Directory::Stache => stands_of_stache(home, has, x),
         Directory::StacheD => stands_of_d(home, has, x),
+        Directory::StacheL => stands_of_l(home, has, x),
     }
 }
 

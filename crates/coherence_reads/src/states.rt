@@ -6,8 +6,9 @@ ghost use Rattle.stache_table.specs.Blocks.{LeftFits, left_of};
 ghost use Rattle.coherence_inv.specs.Coherent.{InHomeRoOrAcks, IsCacheNode, IsCacheState, IsHomeState, IsSettled, IsWaiting};
 ghost use Rattle.coherence_inv.specs.Coherent.{OneRequest, RestFits, tag_of};
 ghost use Rattle.stache_d_inv.specs.Coherent as words_d;
+ghost use Rattle.stache_l_inv.specs.Coherent as words_l;
 ghost use Rattle.coherence_reads.specs.Directories.{RestFitsUnder};
-ghost use Rattle.coherence_reads.specs.Counts.{IsCount};
+ghost use Rattle.note_reads.specs.Counts.{IsCount};
 ghost use Rattle.block_reads.specs.Whose.{rest_in, state_in};
 
 use crate::{Count, Whose};
@@ -111,6 +112,22 @@ fn rest_fits_of_d(nodes: u8, home: NodeId, place: Place, whose: Whose) -> bool
     }
 }
 
+/// Whether a block of Stache_L in this state may have this continuation: a reader may wait for the copy of another.
+#[tactic(auto, using(crate::proofs::Elsewhere::fits_but_acks))]
+fn rest_fits_of_l(nodes: u8, home: NodeId, place: Place, whose: Whose) -> bool
+    ensures { Decides result (words_l.RestFits nodes home (state_in place) (rest_in whose)) }
+{
+    match place {
+        Place::HomeAcks => match whose {
+            Whose::OfHome => true,
+            Whose::OfRo(node) => is_cache_node(nodes, home, node),
+            Whose::OfRw(node) => is_cache_node(nodes, home, node),
+            _ => false,
+        },
+        _ => rest_fits_of_stache(nodes, home, place, whose),
+    }
+}
+
 /// Whether a block in this state may have this continuation.
 pub fn rest_fits(directory: Directory, nodes: u8, home: NodeId, place: Place, whose: Whose) -> bool
     ensures { Decides result (RestFitsUnder directory nodes home (state_in place) (rest_in whose)) }
@@ -118,6 +135,7 @@ pub fn rest_fits(directory: Directory, nodes: u8, home: NodeId, place: Place, wh
     match directory {
         Directory::Stache => rest_fits_of_stache(nodes, home, place, whose),
         Directory::StacheD => rest_fits_of_d(nodes, home, place, whose),
+        Directory::StacheL => rest_fits_of_l(nodes, home, place, whose),
     }
 }
 

@@ -2,6 +2,7 @@
 use Rattle.std.proofs.Common.{refl, ◌≡◌, ℕ, zero, suc, ◌<◌, ◌≤◌, List, [], ◌∷◌, map, length, Option, Some, None, ap, sym, ◌∙◌}
 use Rattle.std.proofs.Common.{arith, get_or}
 use Rattle.std.specs.Prelude.{◌↔◌}
+use Rattle.tw_base.specs.declared.name.Name.{Name}
 use Rattle.std.specs.Option.{option_map}
 use Rattle.teapot_tree.specs.declared.expr.Expr.{Expr}
 use Rattle.teapot_tree.specs.declared.stmt.Stmt.{Stmt, fold_out-Stmt}
@@ -53,6 +54,30 @@ told-If s e f xs ys o i =
     none_back : (o : Option (List Stmt)) → option_map bare_all o ≡ None → o ≡ None
     none_back None e = refl
     none_back (Some x) e = absurd cc
+
+bare-ForEach : (n : Name) (e : Expr) (xs : List Stmt) → bare_do (v.ForEach n e xs) ≡ v.ForEach n e (bare_all xs)
+bare-ForEach n e xs = ap bare_do (sym (v.rolls-ForEach n e xs)) ∙ bare_do-roll (Do-F.ForEach n e xs)
+    ∙ v.rolls-ForEach n e (bare_all xs)
+
+-- a loop that does nothing, told by its variable and its set
+pub told-ForEach : (s : Stmt) (n m : Name) (e f : Expr) (xs : List Stmt) → s.what ≡ v.ForEach n e xs →
+    (bare s ≡ said (Do-F.ForEach m f [])) ↔ ((n ≡ m) × (e ≡ f) × (xs ≡ []))
+told-ForEach s n m e f xs i =
+    let k : bare s ≡ record { what = v.ForEach n e (bare_all xs); line = 0 } = bare-what s
+    ∙ ap (λ z. record { what = z; line = 0 }) (ap bare_do i ∙ bare-ForEach n e xs) in (
+      λ h.
+          let w : v.ForEach n e (bare_all xs) ≡ roll-Do (Do-F.ForEach m f []) = ap (λ (z : Stmt). z.what) (sym k ∙ h) in
+          let q : Do-F.ForEach n e (bare_all xs) ≡ Do-F.ForEach m f [] = sym (v.outs-ForEach n e (bare_all xs))
+          ∙ ap out-Do (w ∙ v.rolls-ForEach m f []) ∙ v.outs-ForEach m f [] in
+          (cc, cc, nothing_back xs (cc)),
+      λ h. k ∙ ap (λ z. record { what = z; line = 0 }) (ap (λ z. v.ForEach z e (bare_all xs)) h.0
+          ∙ ap (λ z. v.ForEach m z (bare_all xs)) h.1 ∙ ap (λ z. v.ForEach m f (bare_all z)) h.2
+          ∙ sym (v.rolls-ForEach m f [])),
+    )
+  where
+    nothing_back : (xs : List Stmt) → bare_all xs ≡ [] → xs ≡ []
+    nothing_back [] e = refl
+    nothing_back (x ∷ xs) e = absurd cc
 
 -- ---- a list of five
 

@@ -17,9 +17,10 @@ use Rattle.stache_check.specs.declared.line.Plain.{Plain}
 use Rattle.stache_check.specs.declared.line.Plain.TheVariants as p
 use Rattle.stache_check.specs.declared.line.Branch.{Branch}
 use Rattle.stache_check.specs.declared.line.Branch.TheVariants as b
-use Rattle.stache_tree.specs.Tree.{message, home_rw, home_ro, home_excl, home_acks, home_put, cache_inv, cache_ro, cache_rw}
-use Rattle.stache_tree.specs.Tree.{cache_wait_ro, cache_wait_rw}
+use Rattle.stache_tree.specs.Tree.{info, message, home_rw, home_ro, home_excl, home_acks, home_put, cache_inv, cache_ro}
+use Rattle.stache_tree.specs.Tree.{cache_rw, cache_wait_ro, cache_wait_rw}
 use Rattle.stache_d_tree.specs.Tree.{cache_rw_d, home_excl_d, home_put_d}
+use Rattle.stache_l_tree.specs.Tree.{home_ro_l}
 use Rattle.stache_check.specs.declared.directory.Directory.{Directory}
 use Rattle.stache_check.specs.declared.directory.Directory.TheVariants as d
 use Rattle.stache_check.specs.declared.protocol.Sent.{Sent}
@@ -32,17 +33,20 @@ use Rattle.stache_check.specs.declared.handler.On.TheVariants as o
 use Rattle.teapot_tree.specs.declared.protocol.Handler.{Handler}
 use Rattle.teapot_tree.specs.declared.protocol.Trigger.{Trigger}
 use Rattle.teapot_tree.specs.declared.protocol.Trigger.TheVariants as tr
+use Rattle.teapot_tree.specs.declared.protocol.ValType.TheVariants as ty
 use Rattle.stache_check.specs.declared.line.Line.{Line}
 use Rattle.stache_check.specs.declared.line.Line.TheVariants as l
 
 abbrev pub word_of : Word → Name
 word_of w.Stache = codes "Stache"
 word_of w.StacheD = codes "Stache_D"
+word_of w.StacheL = codes "Stache_L"
 word_of w.Sharers = codes "sharers"
 word_of w.Owner = codes "owner"
 word_of w.Acks = codes "acks"
 word_of w.C = codes "C"
 word_of w.L = label
+word_of w.X = codes "x"
 word_of w.Unexpected = codes "Unexpected"
 word_of w.GetRo = codes "GET_RO"
 word_of w.GetRw = codes "GET_RW"
@@ -78,6 +82,7 @@ term_of (t.One x) = One (atom_of x)
 term_of (t.Count x) = Count (atom_of x)
 term_of (t.Two op x y) = Two op (atom_of x) (atom_of y)
 term_of (t.WithOne x y) = Two op.With (One (atom_of x)) (atom_of y)
+term_of (t.CountIs x y) = Two op.Eq (Count (atom_of x)) (atom_of y)
 
 abbrev pub atom_expr : Atom → Expr
 atom_expr x = expr_of (atom_of x)
@@ -88,6 +93,7 @@ term_expr x = expr_of (term_of x)
 -- a statement that holds no other
 abbrev pub plain_of : Plain → Stmt
 plain_of (p.Assign w e) = said (Do-F.Assign (word_of w) (term_expr e))
+plain_of (p.Last w e) = said (Do-F.ForEach (word_of w) (term_expr e) [])
 plain_of (p.Send to w) = said (Do-F.Send (atom_expr to) (word_of w) [])
 plain_of (p.SendAll to w) = said (Do-F.SendAll (atom_expr to) (word_of w) [])
 plain_of (p.SetTag tag) = said (Do-F.SetTag tag)
@@ -104,6 +110,9 @@ plains ps = map plain_of ps
 
 abbrev pub branch_of : Branch → List Plain
 branch_of b.Revoke = p.SendAll (a.Var w.Sharers) w.Inv ∷ p.Assign w.Sharers (t.Atom a.Empty) ∷ p.Suspend w.HomeAcks ∷ []
+branch_of b.RevokeOne =
+    p.Last w.X (t.Atom (a.Var w.Sharers)) ∷ p.Assign w.Sharers (t.Two op.Without (a.Var w.Sharers) (a.Var w.X))
+    ∷ p.Assign w.Acks (t.Atom (a.Number 1)) ∷ p.Send (a.Var w.X) w.Inv ∷ p.Suspend w.HomeAcks ∷ []
 branch_of b.Finish = p.Resume w.C ∷ []
 
 abbrev pub line_of : Line → Stmt
@@ -118,6 +127,16 @@ trigger_of o.Default = tr.Default
 
 abbrev pub handler_of : On → List Line → Handler
 handler_of on lines = record { on = trigger_of on; args = []; locals = []; body = map line_of lines; line = 0 }
+
+-- a handler with one variable of its own, a node
+abbrev pub handler_choosing : On → Word → List Line → Handler
+handler_choosing on x lines = record {
+  on = trigger_of on;
+  args = [];
+  locals = info (word_of x) ty.Node ∷ [];
+  body = map line_of lines;
+  line = 0;
+}
 
 abbrev pub message_of : Sent → MessageDecl
 message_of s = message (word_of s.word) s.chan s.carries
@@ -144,6 +163,11 @@ state_by_d pl.HomePut = home_put_d
 state_by_d pl.CacheRw = cache_rw_d
 state_by_d place = state_by place
 
+abbrev pub state_by_l : Place → State
+state_by_l pl.HomeRo = home_ro_l
+state_by_l place = state_by place
+
 abbrev pub state_under : Directory → Place → State
 state_under d.Stache = state_by
 state_under d.StacheD = state_by_d
+state_under d.StacheL = state_by_l

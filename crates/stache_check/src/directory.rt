@@ -4,4 +4,6 @@ pub enum Directory {
     Stache,
     /// A recall for a reader leaves the owner a copy.
     StacheD,
+    /// At most two caches hold a block read-only.
+    StacheL,
 }

@@ -5,13 +5,15 @@ ghost use Rattle.stache_tree.specs.Code.{said};
 ghost use Rattle.stache_check.specs.Words.{branch_of, line_of, plain_of, plains, term_expr};
 
 use crate::{Atom, Term, Word, is_atom, is_term};
-use teapot_tree::{Do, Stmt};
+use teapot_tree::{Do, Op, Stmt};
 use tw_base::{Listed, Tag};
 
 /// A statement that holds no other.
 #[derive(Clone, Copy)]
 pub enum Plain {
     Assign(Word, Term),
+    /// A loop over a set that does nothing: it leaves the last member in its variable.
+    Last(Word, Term),
     Send(Atom, Word),
     SendAll(Atom, Word),
     SetTag(Tag),
@@ -28,6 +30,7 @@ pub enum Plain {
 #[derive(Clone, Copy)]
 pub enum Branch {
     Revoke,
+    RevokeOne,
     Finish,
 }
 
@@ -43,6 +46,12 @@ pub fn is_plain(s: &Stmt, plain: Plain) -> bool
 {
     match (&s.what, plain) {
         (Do::Assign(name, e), Plain::Assign(word, term)) => word.is(name) && is_term(e, term),
+        (Do::ForEach(name, e, body), Plain::Last(word, term)) => {
+            if !word.is(name) || !is_term(e, term) {
+                return false;
+            }
+            body.is_empty()
+        }
         (Do::Send(to, name, args), Plain::Send(atom, word)) => {
             is_atom(to, atom) && word.is(name) && args.is_empty()
         }
@@ -87,6 +96,16 @@ impl Branch {
             Branch::Revoke => &[
                 Plain::SendAll(Atom::Var(Word::Sharers), Word::Inv),
                 Plain::Assign(Word::Sharers, Term::Atom(Atom::Empty)),
+                Plain::Suspend(Word::HomeAcks),
+            ],
+            Branch::RevokeOne => &[
+                Plain::Last(Word::X, Term::Atom(Atom::Var(Word::Sharers))),
+                Plain::Assign(
+                    Word::Sharers,
+                    Term::Two(Op::Without, Atom::Var(Word::Sharers), Atom::Var(Word::X)),
+                ),
+                Plain::Assign(Word::Acks, Term::Atom(Atom::Number(1))),
+                Plain::Send(Atom::Var(Word::X), Word::Inv),
                 Plain::Suspend(Word::HomeAcks),
             ],
             Branch::Finish => &[Plain::Resume(Word::C)],

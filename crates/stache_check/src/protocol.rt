@@ -1,16 +1,18 @@
 ghost use Rattle.std.specs.Prelude.{◌≡◌, ◌↔◌, IsTrue, Some, None, [], ◌∷◌, map, if◌then◌else◌};
 ghost use Rattle.teapot_tree.specs.Bare.{bare_message, bare_param, bare_start, bare_state};
 ghost use Rattle.stache_d_tree.specs.Tree.{IsStacheD, stache_d, states_d};
+ghost use Rattle.stache_l_tree.specs.Tree.{IsStacheL, stache_l, states_l};
 ghost use Rattle.stache_tree.specs.Tree.{IsStache, info, message, starts_in, stache, states, home_rw, home_ro, home_excl};
 ghost use Rattle.stache_tree.specs.Tree.{home_acks, home_put, cache_inv, cache_ro, cache_rw, cache_wait_ro, cache_wait_rw};
-ghost use Rattle.stache_check.specs.Words.{cont_of, message_of, state_by, state_by_d, state_under, word_of};
+ghost use Rattle.stache_check.specs.Words.{cont_of, message_of, state_by, state_by_d, state_by_l, state_under, word_of};
 
 use crate::states::{
     is_cache_inv, is_cache_ro, is_cache_rw, is_cache_wait_ro, is_cache_wait_rw, is_home_acks,
     is_home_excl, is_home_put, is_home_ro, is_home_rw,
 };
 use crate::states_d::{is_cache_rw_d, is_home_excl_d, is_home_put_d};
-use crate::{Directory, Word, are_none};
+use crate::states_l::is_home_ro_l;
+use crate::{Directory, Word, are_none, is_info};
 use teapot_tree::{Handler, MessageDecl, Param, Protocol, Start, State, ValType};
 use tw_base::{Chan, Name, Tag};
 
@@ -39,12 +41,6 @@ fn are_messages(messages: &[MessageDecl], sents: &[Sent]) -> bool
         }
     }
     true
-}
-
-fn is_info(a: &Param, word: Word, ty: ValType) -> bool
-    ensures { IsTrue result ↔ (bare_param a.now ≡ info (word_of word) ty) }
-{
-    word.is(&a.name) && a.ty == ty
 }
 
 fn is_start(s: &Start, home: bool, word: Word, tag: Tag) -> bool
@@ -140,12 +136,23 @@ fn is_state_of_d(s: &State, place: Place) -> bool
     }
 }
 
+#[tactic(auto, using(crate::proofs::Places::same_but_home_ro))]
+fn is_state_of_l(s: &State, place: Place) -> bool
+    ensures { IsTrue result ↔ (bare_state s.now ≡ state_by_l place) }
+{
+    match place {
+        Place::HomeRo => { is_head(s, Word::HomeRo, false) && is_home_ro_l(s.handlers.items()) }
+        _ => is_state_of_stache(s, place),
+    }
+}
+
 fn is_state(s: &State, directory: Directory, place: Place) -> bool
     ensures { IsTrue result ↔ (bare_state s.now ≡ state_under directory place) }
 {
     match directory {
         Directory::Stache => is_state_of_stache(s, place),
         Directory::StacheD => is_state_of_d(s, place),
+        Directory::StacheL => is_state_of_l(s, place),
     }
 }
 
@@ -323,4 +330,23 @@ pub fn is_stache_d(p: &Protocol) -> bool
         && are_infos(p.infos.items())
         && are_starts(p.starts.items())
         && are_states_of_d(p.states.items())
+}
+
+#[tactic(auto, unfolding(stache_l_tree::specs::Tree::states_l))]
+fn are_states_of_l(found: &[State]) -> bool
+    ensures { IsTrue result ↔ (map bare_state found.now ≡ states_l) }
+{
+    are_states(found, Directory::StacheL, &PLACES)
+}
+
+/// Whether it is Stache_L, line numbers aside.
+pub fn is_stache_l(p: &Protocol) -> bool
+    ensures { IsTrue result ↔ IsStacheL p.now }
+{
+    Word::StacheL.is(&p.name)
+        && p.profile == 2
+        && are_all_messages(p.messages.items())
+        && are_infos(p.infos.items())
+        && are_starts(p.starts.items())
+        && are_states_of_l(p.states.items())
 }

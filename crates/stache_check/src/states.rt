@@ -40,6 +40,34 @@ pub fn is_home_rw(handlers: &[Handler]) -> bool
     }
 }
 
+/// What a home that shares its copy does where it is to write itself.
+pub const SHARED_ON_WR_FAULT: [Line; 7] = [
+    Line::Just(Plain::Assign(Word::Acks, Term::Count(Atom::Var(Word::Sharers)))),
+    Line::Just(Plain::SendAll(Atom::Var(Word::Sharers), Word::Inv)),
+    Line::Just(Plain::Assign(Word::Sharers, Term::Atom(Atom::Empty))),
+    Line::Just(Plain::Suspend(Word::HomeAcks)),
+    Line::Just(Plain::SetTag(Tag::ReadWrite)),
+    Line::Just(Plain::WakeUp),
+    Line::Just(Plain::SetState(Word::HomeRw)),
+];
+
+/// And where a cache is to write.
+pub const SHARED_ON_GET_RW: [Line; 7] = [
+    Line::Just(Plain::Assign(
+        Word::Sharers,
+        Term::Two(Op::Without, Atom::Var(Word::Sharers), Atom::Src),
+    )),
+    Line::Just(Plain::Assign(Word::Acks, Term::Count(Atom::Var(Word::Sharers)))),
+    Line::When(
+        Term::Two(Op::Lt, Atom::Number(0), Atom::Var(Word::Acks)),
+        Branch::Revoke,
+    ),
+    Line::Just(Plain::Assign(Word::Owner, Term::Atom(Atom::Src))),
+    Line::Just(Plain::SetTag(Tag::Invalid)),
+    Line::Just(Plain::Send(Atom::Src, Word::DataRw)),
+    Line::Just(Plain::SetState(Word::HomeExcl)),
+];
+
 pub fn is_home_ro(handlers: &[Handler]) -> bool
     ensures { IsTrue result ↔ (map bare_handler handlers.now ≡ home_ro.handlers) }
 {
@@ -48,19 +76,7 @@ pub fn is_home_ro(handlers: &[Handler]) -> bool
             if !is_handler(a, On::RdFault, &[Line::Just(Plain::WakeUp)]) {
                 return false;
             }
-            if !is_handler(
-                b,
-                On::WrFault,
-                &[
-                    Line::Just(Plain::Assign(Word::Acks, Term::Count(Atom::Var(Word::Sharers)))),
-                    Line::Just(Plain::SendAll(Atom::Var(Word::Sharers), Word::Inv)),
-                    Line::Just(Plain::Assign(Word::Sharers, Term::Atom(Atom::Empty))),
-                    Line::Just(Plain::Suspend(Word::HomeAcks)),
-                    Line::Just(Plain::SetTag(Tag::ReadWrite)),
-                    Line::Just(Plain::WakeUp),
-                    Line::Just(Plain::SetState(Word::HomeRw)),
-                ],
-            ) {
+            if !is_handler(b, On::WrFault, &SHARED_ON_WR_FAULT) {
                 return false;
             }
             if !is_handler(
@@ -76,25 +92,7 @@ pub fn is_home_ro(handlers: &[Handler]) -> bool
             ) {
                 return false;
             }
-            if !is_handler(
-                d,
-                On::Named(Word::GetRw),
-                &[
-                    Line::Just(Plain::Assign(
-                        Word::Sharers,
-                        Term::Two(Op::Without, Atom::Var(Word::Sharers), Atom::Src),
-                    )),
-                    Line::Just(Plain::Assign(Word::Acks, Term::Count(Atom::Var(Word::Sharers)))),
-                    Line::When(
-                        Term::Two(Op::Lt, Atom::Number(0), Atom::Var(Word::Acks)),
-                        Branch::Revoke,
-                    ),
-                    Line::Just(Plain::Assign(Word::Owner, Term::Atom(Atom::Src))),
-                    Line::Just(Plain::SetTag(Tag::Invalid)),
-                    Line::Just(Plain::Send(Atom::Src, Word::DataRw)),
-                    Line::Just(Plain::SetState(Word::HomeExcl)),
-                ],
-            ) {
+            if !is_handler(d, On::Named(Word::GetRw), &SHARED_ON_GET_RW) {
                 return false;
             }
             is_handler(

@@ -21,6 +21,8 @@ pub enum Term {
     Two(Op, Atom, Atom),
     /// `With(One(a), b)`: the set of two nodes.
     WithOne(Atom, Atom),
+    /// `Count(a) = b`.
+    CountIs(Atom, Atom),
 }
 
 pub fn is_atom(e: &Expr, atom: Atom) -> bool
@@ -45,6 +47,15 @@ fn is_one(e: &Expr, atom: Atom) -> bool
     }
 }
 
+fn is_count(e: &Expr, atom: Atom) -> bool
+    ensures { IsTrue result ↔ (e.now ≡ term_expr (Term.Count atom)) }
+{
+    match e {
+        Expr::Count(a) => is_atom(a.get(), atom),
+        _ => false,
+    }
+}
+
 pub fn is_term(e: &Expr, term: Term) -> bool
     ensures { IsTrue result ↔ (e.now ≡ term_expr term) }
 {
@@ -57,6 +68,9 @@ pub fn is_term(e: &Expr, term: Term) -> bool
         }
         (Expr::Two(op, a, b), Term::WithOne(x, y)) => {
             *op == Op::With && is_one(a.get(), x) && is_atom(b.get(), y)
+        }
+        (Expr::Two(op, a, b), Term::CountIs(x, y)) => {
+            *op == Op::Eq && is_count(a.get(), x) && is_atom(b.get(), y)
         }
         _ => false,
     }

@@ -17,8 +17,8 @@ use Rattle.stache_tree.specs.Tree.{IsStache, stache}
 use Rattle.stache_table.specs.Blocks.{Block, IsBlock, Matches, read, seen}
 use Rattle.stache_table.specs.Laws.{IsCome}
 use Rattle.stache_table.specs.Numbered.{Says, TableRow, row_at, rows}
-use Rattle.coherence_reads.specs.Notes.{note_in}
-use Rattle.coherence_reads.specs.declared.note.Note.{Note}
+use Rattle.note_reads.specs.Notes.{note_in}
+use Rattle.note_reads.specs.declared.note.Note.{Note}
 
 -- of which kind of message a note is
 abbrev pub kind_of_note : marks.Note → cases.Kind

@@ -11,3 +11,7 @@ returns-in-Stache c = subst (λ (d : Directory). Decides c.is_placed_of_stache.r
 pub returns-in-StacheD : goal.returns-in-StacheD
 returns-in-StacheD c = subst (λ (d : Directory). Decides c.is_placed_of_d.result (IsPlacedUnder d c.args.here.now))
     (sym c.in-StacheD.is) c.is_placed_of_d.ensures
+
+pub returns-in-StacheL : goal.returns-in-StacheL
+returns-in-StacheL c = subst (λ (d : Directory). Decides c.is_placed_of_l.result (IsPlacedUnder d c.args.here.now))
+    (sym c.in-StacheL.is) c.is_placed_of_l.ensures

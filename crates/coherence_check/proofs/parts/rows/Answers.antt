@@ -1,4 +1,4 @@
-use Rattle.coherence_reads.proofs.Lists.{both_so}
+use Rattle.note_reads.proofs.Lists.{both_so}
 use Rattle.dsm_model.specs.Globals.{setup_of, world_of}
 use Rattle.coherence_check.proofs.Together.{fifth}
 use Rattle.coherence_check.proofs.parts.rows.Goals as goal

@@ -9,7 +9,7 @@ use Rattle.dsm_model.specs.Globals.{setup_of, world_of}
 use Rattle.dsm_runs.specs.declared.mode.Waiting.{Waiting}
 use Rattle.dsm_runs.specs.Setups.{home_of}
 use Rattle.block_reads.specs.Tables.{reads_under}
-use Rattle.coherence_reads.specs.Notes.{IsSummary}
+use Rattle.note_reads.specs.Notes.{IsSummary}
 use Rattle.coherence_check.proofs.spot.spot_at.Goals as goal
 
 pub returns : goal.returns

@@ -1,4 +1,5 @@
-use Rattle.coherence_reads.proofs.Lists.{both_so}
+use Rattle.note_reads.proofs.Lists.{both_so}
+use Rattle.coherence_reads.specs.Directories.{wording_under}
 use Rattle.coherence_check.proofs.Together.{at_node}
 use Rattle.coherence_check.proofs.waits.node_fits.Goals as goal
 
@@ -13,4 +14,4 @@ returns c = λ s i b l k.
     let all = both_so _ _ _ _ _ (c.waits_ro.ensures h i b l k)
     (both_so _ _ _ _ _ (c.waits_rw.ensures h i b l k) (both_so _ _ _ _ _
     (c.blocked_waits.ensures h i b l k) own c.both-3.ensures) c.both-4.ensures) c.both-5.ensures in
-    at_node c.args.directory s l i b _ all
+    at_node (wording_under c.args.directory).standing s l i b _ all

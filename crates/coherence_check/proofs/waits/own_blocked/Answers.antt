@@ -1,7 +1,7 @@
 use Rattle.std.proofs.Common.{subst}
 use Rattle.block_spots.specs.Cases.{Rest}
 use Rattle.block_spots.specs.Notes.{held_home}
-use Rattle.coherence_reads.specs.Counts.{IsCount}
+use Rattle.note_reads.specs.Counts.{IsCount}
 use Rattle.coherence_check.proofs.Deciding.{implies_so}
 use Rattle.coherence_check.proofs.waits.own_blocked.Goals as goal
 

@@ -2,7 +2,7 @@ use Rattle.std.proofs.Common.{subst}
 use Rattle.std.specs.Bool.{Decides}
 use Rattle.block_spots.specs.Cases.{Rest, State}
 use Rattle.block_spots.specs.Notes.{held_home}
-use Rattle.coherence_reads.specs.Counts.{IsCount}
+use Rattle.note_reads.specs.Counts.{IsCount}
 use Rattle.coherence_reads.specs.Directories.{HeldUnder}
 use Rattle.block_reads.specs.Whose.{rest_in}
 use Rattle.coherence_check.proofs.Deciding.{implies_so, waits_so}

@@ -1,7 +1,7 @@
 use Rattle.std.proofs.Common.{◌≡◌, List, Some, None, slice_get, rules, arith, sym, subst}
 use Rattle.std.specs.Option.{IsSome, option_copied}
 use Rattle.block_spots.specs.Notes.{Note}
-use Rattle.coherence_reads.specs.Notes.{IsSummary}
+use Rattle.note_reads.specs.Notes.{IsSummary}
 use Rattle.dsm_model.specs.Globals.{world_of}
 use Rattle.coherence_check.proofs.Saying.{said_none, some_within}
 use Rattle.coherence_check.proofs.wire.said.Goals as goal

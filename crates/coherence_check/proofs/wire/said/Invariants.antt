@@ -1,4 +1,4 @@
-use Rattle.coherence_reads.specs.Notes.{IsSummary}
+use Rattle.note_reads.specs.Notes.{IsSummary}
 use Rattle.dsm_model.specs.Globals.{world_of}
 use Rattle.coherence_check.specs.Said.{said_to}
 use Rattle.coherence_check.proofs.wire.said.Given as goal

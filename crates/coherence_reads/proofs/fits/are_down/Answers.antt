@@ -9,3 +9,7 @@ use Rattle.coherence_reads.proofs.fits.are_down.Goals as goal
 pub returns-in-Stache : goal.returns-in-Stache
 returns-in-Stache c = λ w ws ns h. subst (λ (d : Directory). Decides c.both.result (Each (IsDownUnder d w) ns))
     (sym c.in-Stache.is) (down_of_stache w ns _ _ _ h.downs h.shared c.both.ensures)
+
+pub returns-in-StacheL : goal.returns-in-StacheL
+returns-in-StacheL c = λ w ws ns h. subst (λ (d : Directory). Decides c.both-in-StacheL.result (Each (IsDownUnder d w) ns))
+    (sym c.in-StacheL.is) (down_of_stache w ns _ _ _ h.downs h.shared c.both-in-StacheL.ensures)

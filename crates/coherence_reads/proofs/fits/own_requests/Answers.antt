@@ -1,4 +1,4 @@
-use Rattle.coherence_reads.proofs.Lists.{both_so}
+use Rattle.note_reads.proofs.Lists.{both_so}
 use Rattle.coherence_reads.proofs.fits.own_requests.Goals as goal
 
 pub returns : goal.returns

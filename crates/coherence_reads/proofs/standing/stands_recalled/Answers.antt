@@ -3,7 +3,7 @@ use Rattle.std.specs.Bool.{Decides}
 use Rattle.block_spots.specs.Cases.{Rest}
 use Rattle.block_spots.specs.Notes.{gets_rw}
 use Rattle.stache_d_inv.specs.Coherent.{Recalled}
-use Rattle.coherence_reads.proofs.Lists.{both_so}
+use Rattle.note_reads.proofs.Lists.{both_so}
 use Rattle.coherence_reads.proofs.standing.stands_recalled.Goals as goal
 
 pub returns : goal.returns

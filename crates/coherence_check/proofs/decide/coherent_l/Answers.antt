@@ -1,0 +1,14 @@
+use Rattle.std.proofs.Common.{subst}
+use Rattle.std.specs.Prelude.{MatchResult}
+use Rattle.coherence_frame.specs.Parts.{IsCoherent}
+use Rattle.stache_l_inv.specs.Parts.{wording}
+use Rattle.dsm_model.specs.Globals.{world_of}
+use Rattle.dsm_runs.specs.Setups.{Setup}
+use Rattle.coherence_check.specs.Breaches.{IsBrokenL}
+use Rattle.coherence_check.proofs.decide.coherent_l.Goals as goal
+
+pub returns : goal.returns
+returns c =
+    let w = world_of c.args.g.now in
+    subst (λ (s : Setup). MatchResult c.decide.result (λ x. IsCoherent wording s w) (λ b. IsBrokenL s w b)) c.requires
+    c.decide.ensures

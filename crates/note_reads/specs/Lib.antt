@@ -1,0 +1,3 @@
+pub mod Counts
+pub mod Deferring
+pub mod Notes
