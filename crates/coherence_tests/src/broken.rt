@@ -1,11 +1,12 @@
 use crate::reading::{make, protocol, setup, verdict};
-use coherence_check::{Broken, holds, holds_d};
+use coherence_check::{Broken, holds, holds_d, holds_l};
 use coherence_reads::Part;
 use driven_rows::COPY_KEPT;
 use dsm_model::Global;
 use shipped_text::STACHE;
 use stache_check::Directory;
 use stache_d_text::STACHE_D;
+use stache_l_text::STACHE_L;
 use std::alloc;
 use std::process::Abort;
 use std::test::Fail;
@@ -38,11 +39,31 @@ halt
 end
 ";
 
+/// Three nodes read a word of node 1.
+const READERS: &str = "tempest 2
+nodes 4
+words 1
+blocks 2
+program 0
+ld r1 r0 1
+halt
+end
+program 2
+ld r1 r0 1
+halt
+end
+program 3
+ld r1 r0 1
+halt
+end
+";
+
 // The protocol's text.
 fn text_of(directory: Directory) -> &'static str {
     match directory {
         Directory::Stache => STACHE,
         Directory::StacheD => STACHE_D,
+        Directory::StacheL => STACHE_L,
     }
 }
 
@@ -63,6 +84,7 @@ fn has(g: &Global, directory: Directory, block: BlockId, part: Part) -> bool {
     match directory {
         Directory::Stache => holds(g, block, part),
         Directory::StacheD => holds_d(g, block, part),
+        Directory::StacheL => holds_l(g, block, part),
     }
 }
 
@@ -184,4 +206,65 @@ fn each_part_breaks_under_stache_d(rt: HostRuntime) -> Result<(), Fail> {
     // The home keeps its stale copy.
     let stale = ("On PUT_RO()\n  Begin\n    Install", "On PUT_RO()\n  Begin");
     breaks(&rt, alloc, own, stale, COPY_KEPT, shared, "23457")
+}
+
+/// Three readers ask, and two of them have a copy when the request of the third has come.
+const THREE_ASK: &str = "I 0
+D 1 0 0
+D 0 1 1
+I 2
+D 1 2 0
+D 2 1 1
+I 3
+D 1 3 0";
+
+#[test]
+fn directories_break_stache_l(rt: HostRuntime) -> Result<(), Fail> {
+    let alloc = rt.alloc();
+    let own = Directory::StacheL;
+    // The home lets a third sharer in.
+    let third = ("Count(sharers) = 2", "Count(sharers) = 3");
+    breaks(&rt, alloc, own, third, READERS, THREE_ASK, "23467")?;
+    // The home invalidates the copy of the sharer that it keeps.
+    let wrong = ("Send(x, INV)", "SendAll(sharers, INV)");
+    breaks(&rt, alloc, own, wrong, READERS, THREE_ASK, "23467")?;
+    // The home waits for two answers where it asked for one.
+    let two = ("acks := 1", "acks := 2");
+    breaks(&rt, alloc, own, two, READERS, THREE_ASK, "23467")
+}
+
+/// How Stache_L takes a copy from one of two sharers.
+const BY_X: &str = "Local x Node
+    If (Count(sharers) = 2)
+    Begin
+      ForEach x sharers
+      Begin
+      End
+      sharers := Without(sharers, x)
+      acks := 1
+      Send(x, INV)";
+
+/// The same with a variable of another name.
+const BY_Y: &str = "Local y Node
+    If (Count(sharers) = 2)
+    Begin
+      ForEach y sharers
+      Begin
+      End
+      sharers := Without(sharers, y)
+      acks := 1
+      Send(y, INV)";
+
+#[test]
+fn continuations_break_stache_l(rt: HostRuntime) -> Result<(), Fail> {
+    let alloc = rt.alloc();
+    let own = Directory::StacheL;
+    // The home leaves other statements to be done when the answer has come.
+    let rest = (
+        "End\n    sharers := With(sharers, src)\n    Send(src, DATA_RO)",
+        "End\n    Send(src, DATA_RO)\n    sharers := With(sharers, src)",
+    );
+    breaks(&rt, alloc, own, rest, READERS, THREE_ASK, "367")?;
+    // The chosen node stands in a variable of another name.
+    breaks(&rt, alloc, own, (BY_X, BY_Y), READERS, THREE_ASK, "34567")
 }

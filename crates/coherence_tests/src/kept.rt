@@ -1,23 +1,26 @@
 use crate::reading::{make, setup, verdict};
+use coherence_check::Broken;
 use driven_rows::{
-    COPY_KEPT, COPY_KEPT_EVENTS, DEFERRED, DEFERRED_EVENTS, LAPSED, LAPSED_EVENTS, TWO_RESTS,
-    TWO_RESTS_EVENTS, WRITERS, WRITERS_EVENTS,
+    A_READER_WRITES, A_READER_WRITES_EVENTS, COPY_KEPT, COPY_KEPT_EVENTS, DEFERRED,
+    DEFERRED_EVENTS, LAPSED, LAPSED_EVENTS, TWO_RESTS, TWO_RESTS_EVENTS, WRITERS, WRITERS_EVENTS,
 };
 use dsm_model::Global;
 use stache_check::Directory;
 use stache_d_protocol::stache_d;
+use stache_l_protocol::stache_l;
 use stache_protocol::stache;
 use std::alloc;
 use std::process::Abort;
 use std::test::Fail;
 use teapot_tree::Checked;
-use tw_base::{Listed, Memory};
+use tw_base::{BlockId, Listed, Memory};
 
 // The protocol by its name.
 fn protocol(alloc: alloc::Global, directory: Directory) -> Result<Checked, Memory> {
     match directory {
         Directory::Stache => stache(alloc),
         Directory::StacheD => stache_d(alloc),
+        Directory::StacheL => stache_l(alloc),
     }
 }
 
@@ -62,4 +65,31 @@ fn a_run_under_stache_d_is_coherent(rt: HostRuntime) -> Result<(), Fail> {
     let alloc = rt.alloc();
     let own = Directory::StacheD;
     stays_coherent(&rt, alloc, own, COPY_KEPT, COPY_KEPT_EVENTS, 16)
+}
+
+#[test]
+fn a_run_under_stache_l_is_coherent(rt: HostRuntime) -> Result<(), Fail> {
+    let alloc = rt.alloc();
+    let own = Directory::StacheL;
+    stays_coherent(&rt, alloc, own, A_READER_WRITES, A_READER_WRITES_EVENTS, 25)
+}
+
+// Under another protocol than its own a start breaks part 1.
+fn is_another(rt: &impl Abort, own: Directory, g: &Global) {
+    let broken = Broken {
+        block: BlockId::new(0).unwrap(),
+        part: 1,
+    };
+    assert_eq!(rt; verdict(own, g), Err(broken));
+}
+
+#[test]
+fn each_protocol_is_decided_alone(rt: HostRuntime) -> Result<(), Fail> {
+    let alloc = rt.alloc();
+    let setup = setup(alloc, A_READER_WRITES, stache_l(alloc)?)?;
+    let g = Global::new(alloc, &setup)?;
+    is_another(&rt, Directory::Stache, &g);
+    is_another(&rt, Directory::StacheD, &g);
+    assert_eq!(rt; verdict(Directory::StacheL, &g), Ok(()));
+    Ok(())
 }

@@ -1,7 +1,7 @@
 ghost use Rattle.dsm_model.specs.Globals.{setup_of, world_of};
 ghost use Rattle.dsm_runs.specs.Worlds.{IsEnabled};
 
-use coherence_check::{Broken, coherent, coherent_d};
+use coherence_check::{Broken, coherent, coherent_d, coherent_l};
 use dsm_model::{Global, Setup, enabled, step};
 use stache_check::Directory;
 use std::alloc;
@@ -30,6 +30,7 @@ pub fn verdict(directory: Directory, g: &Global) -> Result<(), Broken> {
     match directory {
         Directory::Stache => coherent(g.setup(), g),
         Directory::StacheD => coherent_d(g.setup(), g),
+        Directory::StacheL => coherent_l(g.setup(), g),
     }
 }
 

@@ -9,7 +9,7 @@ use driven_rows::{
     TWO_RESTS_EVENTS, TWO_RESTS_REPORT, WRITERS, WRITERS_EVENTS, WRITERS_REPORT,
 };
 use dsm_model::{Global, Setup, enabled, settle, step};
-use journal::{Options, finals_of, first_break, report, words_of};
+use journal::{Break, Options, finals_of, first_break, report, words_of};
 use mini_asm::Flat;
 use printed_text::Names;
 use stache_d_protocol::stache_d;
@@ -21,6 +21,55 @@ use std::test::Fail;
 use teapot_tree::Checked;
 use tempest_input::settings_in;
 use tw_base::{Entry, Event, Listed};
+
+// A machine, the rows that drive it, and its report, with the events if these are due.
+struct Driven {
+    text: &'static str,
+    rows: &'static str,
+    report: &'static str,
+    journal: bool,
+}
+
+static UNDER_STACHE: [Driven; 4] = [
+    Driven {
+        text: WRITERS,
+        rows: WRITERS_EVENTS,
+        report: WRITERS_REPORT,
+        journal: true,
+    },
+    Driven {
+        text: DEFERRED,
+        rows: DEFERRED_EVENTS,
+        report: DEFERRED_REPORT,
+        journal: true,
+    },
+    Driven {
+        text: LAPSED,
+        rows: LAPSED_EVENTS,
+        report: LAPSED_REPORT,
+        journal: true,
+    },
+    Driven {
+        text: TWO_RESTS,
+        rows: TWO_RESTS_EVENTS,
+        report: TWO_RESTS_REPORT,
+        journal: true,
+    },
+];
+
+static UNDER_STACHE_D: Driven = Driven {
+    text: COPY_KEPT,
+    rows: COPY_KEPT_EVENTS,
+    report: COPY_KEPT_REPORT,
+    journal: true,
+};
+
+static UNDER_STACHE_L: Driven = Driven {
+    text: A_READER_WRITES,
+    rows: A_READER_WRITES_EVENTS,
+    report: A_READER_WRITES_REPORT,
+    journal: false,
+};
 
 // What a text sets up, under a protocol.
 fn setup(alloc: alloc::Global, text: &str, protocol: Checked) -> Result<Setup, Fail> {
@@ -84,9 +133,18 @@ fn answered(
     for row in rows.split('\n') {
         let (asked, due) = row.split_once(": ").unwrap_or((row, "made"));
         let got = answer(alloc, &names, g, asked, &mut entries)?;
-        assert_eq!(rt; got.as_str(), due, "at {asked}");
+        assert!(rt; got.as_str() == due, "at {asked}");
     }
     Ok(entries)
+}
+
+// The first read that a history breaks at.
+fn break_of(alloc: alloc::Global, setup: &Setup, entries: &[Entry]) -> Result<Option<Break>, Fail> {
+    if entries.len() > 1000 {
+        return Err(Fail::new("too many entries"));
+    }
+    let mut flat = Flat::new(alloc, setup.shape(), setup.init(), setup.programs())?;
+    Ok(first_break(&mut flat, entries))
 }
 
 // The report of a run, with its events if they are asked for.
@@ -96,67 +154,57 @@ fn told(
     entries: &[Entry],
     journal: bool,
 ) -> Result<Vec<u8>, Fail> {
-    if entries.len() > 1000 {
-        return Err(Fail::new("too many entries"));
-    }
-    let setup = g.setup();
-    let mut flat = Flat::new(alloc, setup.shape(), setup.init(), setup.programs())?;
-    let broken = first_break(&mut flat, entries);
-    let (finals, words) = (finals_of(alloc, g)?, words_of(alloc, g)?);
+    let broken = break_of(alloc, g.setup(), entries)?;
+    let finals = finals_of(alloc, g)?;
+    let words = words_of(alloc, g)?;
     let options = Options {
         journal,
         counts: false,
     };
     let (finals, words) = (finals.items(), words.items());
-    Ok(report(alloc, setup, entries, finals, words, broken, options)?)
+    Ok(report(alloc, g.setup(), entries, finals, words, broken, options)?)
 }
 
-// The rows are answered as they say, no event is enabled after them, and the report is the one that is due.
+// The rows are answered as they say, no event is enabled after them, and the report is the one that is due. Tells how many
+// events are made.
 fn is_driven(
     rt: &impl Abort,
     alloc: alloc::Global,
     protocol: Checked,
-    text: &str,
-    rows: &str,
-    due: &str,
-) -> Result<(), Fail> {
-    let setup = setup(alloc, text, protocol)?;
+    driven: &Driven,
+) -> Result<usize, Fail> {
+    let setup = setup(alloc, driven.text, protocol)?;
     let mut g = Global::new(alloc, &setup)?;
-    let entries = answered(rt, alloc, &mut g, rows)?;
-    assert_eq!(rt; settle(alloc, &mut g, 0)?.len(), 0);
-    assert_eq!(rt;
-        told(alloc, &g, entries.items(), true)?.as_slice(),
-        due.as_bytes()
-    );
-    Ok(())
+    let entries = answered(rt, alloc, &mut g, driven.rows)?;
+    assert!(rt; settle(alloc, &mut g, 0)?.is_empty());
+    let got = told(alloc, &g, entries.items(), driven.journal)?;
+    assert!(rt; got.as_slice() == driven.report.as_bytes());
+    Ok(entries.len())
 }
 
 #[test]
 fn events_are_made(rt: HostRuntime) -> Result<(), Fail> {
-    let alloc = rt.alloc();
-    for (text, rows, due) in [
-        (WRITERS, WRITERS_EVENTS, WRITERS_REPORT),
-        (DEFERRED, DEFERRED_EVENTS, DEFERRED_REPORT),
-        (LAPSED, LAPSED_EVENTS, LAPSED_REPORT),
-        (TWO_RESTS, TWO_RESTS_EVENTS, TWO_RESTS_REPORT),
-    ] {
-        is_driven(&rt, alloc, stache(alloc)?, text, rows, due)?;
+    for driven in &UNDER_STACHE {
+        let protocol = stache(rt.alloc())?;
+        let _made = is_driven(&rt, rt.alloc(), protocol, driven)?;
     }
     Ok(())
 }
 
 #[test]
 fn an_owner_keeps_its_copy_for_a_reader(rt: HostRuntime) -> Result<(), Fail> {
-    let alloc = rt.alloc();
-    let protocol = stache_d(alloc)?;
-    is_driven(
-        &rt,
-        alloc,
-        protocol,
-        COPY_KEPT,
-        COPY_KEPT_EVENTS,
-        COPY_KEPT_REPORT,
-    )
+    let protocol = stache_d(rt.alloc())?;
+    let _made = is_driven(&rt, rt.alloc(), protocol, &UNDER_STACHE_D)?;
+    Ok(())
+}
+
+// Under Stache_L a reader that meets two sharers has one copy invalidated.
+#[test]
+fn two_share_at_most(rt: HostRuntime) -> Result<(), Fail> {
+    let protocol = stache_l(rt.alloc())?;
+    let made = is_driven(&rt, rt.alloc(), protocol, &UNDER_STACHE_L)?;
+    assert_eq!(rt; made, 25);
+    Ok(())
 }
 
 // The serial run has this report.
@@ -164,47 +212,33 @@ fn is_reported(
     rt: &impl Abort,
     alloc: alloc::Global,
     protocol: Checked,
+    text: &str,
     due: &str,
 ) -> Result<(), Fail> {
-    let setup = setup(alloc, HOME_READS, protocol)?;
+    let setup = setup(alloc, text, protocol)?;
     let mut g = Global::new(alloc, &setup)?;
     let entries = settle(alloc, &mut g, 0)?;
-    assert_eq!(rt;
-        told(alloc, &g, entries.items(), false)?.as_slice(),
-        due.as_bytes()
-    );
+    let got = told(alloc, &g, entries.items(), false)?;
+    assert!(rt; got.as_slice() == due.as_bytes());
     Ok(())
 }
 
 #[test]
 fn a_home_reads_under_both_protocols(rt: HostRuntime) -> Result<(), Fail> {
     let alloc = rt.alloc();
-    is_reported(&rt, alloc, stache(alloc)?, HOME_READS_REPORT)?;
-    is_reported(&rt, alloc, stache_d(alloc)?, HOME_READS_REPORT_D)
-}
-
-// Under Stache_L a reader that meets two sharers has one copy invalidated.
-#[test]
-fn two_share_at_most(rt: HostRuntime) -> Result<(), Fail> {
-    let alloc = rt.alloc();
-    let setup = setup(alloc, A_READER_WRITES, stache_l(alloc)?)?;
-    let mut g = Global::new(alloc, &setup)?;
-    let entries = answered(&rt, alloc, &mut g, A_READER_WRITES_EVENTS)?;
-    assert_eq!(rt; entries.len(), 25);
-    assert_eq!(rt; settle(alloc, &mut g, 0)?.len(), 0);
-    let got = told(alloc, &g, entries.items(), false)?;
-    assert_eq!(rt; got.as_slice(), A_READER_WRITES_REPORT.as_bytes());
-    Ok(())
+    is_reported(&rt, alloc, stache(alloc)?, HOME_READS, HOME_READS_REPORT)?;
+    is_reported(
+        &rt,
+        alloc,
+        stache_d(alloc)?,
+        HOME_READS,
+        HOME_READS_REPORT_D,
+    )
 }
 
 // In the first schedule, too.
 #[test]
 fn a_third_reader_takes_a_copy(rt: HostRuntime) -> Result<(), Fail> {
     let alloc = rt.alloc();
-    let setup = setup(alloc, READERS, stache_l(alloc)?)?;
-    let mut g = Global::new(alloc, &setup)?;
-    let entries = settle(alloc, &mut g, 0)?;
-    let got = told(alloc, &g, entries.items(), false)?;
-    assert_eq!(rt; got.as_slice(), READERS_OF_L.as_bytes());
-    Ok(())
+    is_reported(&rt, alloc, stache_l(alloc)?, READERS, READERS_OF_L)
 }

@@ -13,7 +13,7 @@ use std::process::Abort;
 use std::test::Fail;
 use still_nodes::{Gathered, Still};
 use teapot_samples::{DEAF, DEEP, DOUBLE, PING_PONG, STACHE, WALK};
-use tw_base::Act;
+use tw_base::{Act, Entry, Listed, Memory};
 
 /// Four nodes, each of which writes and reads words of the others.
 const BUSY: &str = "tempest 2
@@ -153,23 +153,76 @@ fn same_finals(ours: &[Final], theirs: &[Final]) -> bool {
 }
 
 /// What nodes did in some runs.
-#[derive(Clone, Copy, Debug, PartialEq, Eq)]
+#[derive(Clone, Copy)]
 struct Seen {
     suspended: bool,
     deferred: bool,
 }
 
+/// Whether a handler suspended on one of these nodes.
+fn has_suspended(finals: &[Final]) -> bool {
+    for ended in finals {
+        if ended.records > 0 {
+            return true;
+        }
+    }
+    false
+}
+
+/// Whether a deferred message was handled.
+fn has_redelivered(entries: &[Entry]) -> bool {
+    for entry in entries {
+        if let Act::Redelivered { .. } = entry.act {
+            return true;
+        }
+    }
+    false
+}
+
 /// What nodes did, beside what was seen before.
 fn seen_in(gathered: &Gathered, before: Seen) -> Seen {
-    let suspended = gathered.finals.items().iter().any(|f| f.records > 0);
-    let entries = gathered.taken.items();
-    let deferred = entries
-        .iter()
-        .any(|e| matches!(e.act, Act::Redelivered { .. }));
     Seen {
-        suspended: before.suspended || suspended,
-        deferred: before.deferred || deferred,
+        suspended: before.suspended || has_suspended(gathered.finals.items()),
+        deferred: before.deferred || has_redelivered(gathered.taken.items()),
     }
+}
+
+/// What the nodes of the model do and leave.
+#[derive(Drop)]
+struct Modelled {
+    entries: Listed<Entry>,
+    finals: Listed<Final>,
+    words: Listed<u64>,
+}
+
+/// What the nodes of the model do, by the serial schedule of a stride.
+fn on_the_model(alloc: Global, setup: &Setup, stride: u32) -> Result<Modelled, Fail> {
+    let mut g = dsm_model::Global::new(alloc, setup)?;
+    let entries = settle(alloc, &mut g, stride)?;
+    let finals = finals_of(alloc, &g)?;
+    let words = words_of(alloc, &g)?;
+    Ok(Modelled {
+        entries,
+        finals,
+        words,
+    })
+}
+
+/// What the nodes on compiled handlers do, by the serial schedule of a stride.
+fn compiled(alloc: Global, setup: &Setup, code: &Code, stride: u32) -> Result<Gathered, Memory>
+    requires code { IsCode setup.now.protocol code.now }
+    requires short { length code.now.ops < 2 ^ 22 }
+{
+    let mut still = Still::new(alloc, setup, code)?;
+    still.settle(alloc, stride)?;
+    still.gather(alloc)
+}
+
+/// Whether both did the same events, and left the same.
+fn are_the_same(gathered: &Gathered, model: &Modelled) -> bool {
+    gathered.taken.items() == model.entries.items()
+        && gathered.words.items() == model.words.items()
+        && same_finals(gathered.finals.items(), model.finals.items())
 }
 
 /// The nodes on compiled handlers do what those of the model do, by the serial schedule of a stride.
@@ -183,23 +236,10 @@ fn run(
     requires code { IsCode setup.now.protocol code.now }
     requires short { length code.now.ops < 2 ^ 22 }
 {
-    let mut g = dsm_model::Global::new(alloc, setup)?;
-    let entries = settle(alloc, &mut g, stride)?;
-    let mut still = Still::new(alloc, setup, code)?;
-    still.settle(alloc, stride)?;
-    let gathered = still.gather(alloc)?;
-    assert!(rt; are_all(&gathered));
-    assert!(rt;
-        gathered.taken.items() == entries.items(),
-        "stride {stride}"
-    );
-    let finals = finals_of(alloc, &g)?;
-    assert!(rt;
-        same_finals(gathered.finals.items(), finals.items()),
-        "stride {stride}"
-    );
-    let words = words_of(alloc, &g)?;
-    assert_eq!(rt; gathered.words.items(), words.items(), "stride {stride}");
+    let model = on_the_model(alloc, setup, stride)?;
+    let gathered = compiled(alloc, setup, code, stride)?;
+    assert!(rt; are_all(&gathered), "stride {stride}");
+    assert!(rt; are_the_same(&gathered, &model), "stride {stride}");
     Ok(gathered)
 }
 
@@ -223,66 +263,87 @@ fn runs(
 
 const STRIDES: [u32; 9] = [0, 1, 2, 3, 5, 7, 13, 100, u32::MAX];
 
-/// The machines that have budget for all that they do, where no two nodes answer each other without end.
-const LONG: [&str; 2] = [BUSY, READERS];
-
-/// These machines run alike under a protocol, and in some run handlers suspend, and messages are deferred, as is said.
-fn are_alike(
-    rt: &impl Abort,
-    alloc: Global,
-    protocol: &str,
-    machines: [&str; 2],
+/// A protocol, two machines, and whether in some run of them handlers suspend, and deferred messages are handled. Machines
+/// other than the first two have little budget, where two nodes answer each other without end.
+struct Case {
+    name: &'static str,
+    protocol: &'static str,
+    first: &'static str,
+    second: &'static str,
     suspended: bool,
     deferred: bool,
-) -> Result<(), Fail> {
-    let mut seen = Seen {
+}
+
+static CASES: [Case; 6] = [
+    Case {
+        name: "Deaf",
+        protocol: DEAF,
+        first: BUSY,
+        second: READERS,
         suspended: false,
         deferred: false,
-    };
-    for machine in machines {
-        seen = runs(rt, alloc, machine, protocol, seen)?;
+    },
+    Case {
+        name: "Ping_Pong",
+        protocol: PING_PONG,
+        first: BRIEF,
+        second: SHORT_READER,
+        suspended: false,
+        deferred: false,
+    },
+    Case {
+        name: "Double",
+        protocol: DOUBLE,
+        first: BUSY,
+        second: READERS,
+        suspended: false,
+        deferred: false,
+    },
+    Case {
+        name: "Deep",
+        protocol: DEEP,
+        first: BUSY,
+        second: READERS,
+        suspended: true,
+        deferred: false,
+    },
+    Case {
+        name: "Walk",
+        protocol: WALK,
+        first: BUSY,
+        second: READERS,
+        suspended: true,
+        deferred: true,
+    },
+    Case {
+        name: "Stache",
+        protocol: STACHE,
+        first: BUSY,
+        second: READERS,
+        suspended: true,
+        deferred: true,
+    },
+];
+
+#[test]
+fn machines_run_as_on_the_model(rt: HostRuntime) -> Result<(), Fail> {
+    for case in &CASES {
+        let nothing = Seen {
+            suspended: false,
+            deferred: false,
+        };
+        let seen = runs(&rt, rt.alloc(), case.first, case.protocol, nothing)?;
+        let seen = runs(&rt, rt.alloc(), case.second, case.protocol, seen)?;
+        assert!(rt;
+            seen.suspended == case.suspended,
+            "suspended under {}",
+            case.name
+        );
+        assert!(rt;
+            seen.deferred == case.deferred,
+            "deferred under {}",
+            case.name
+        );
     }
-    let due = Seen {
-        suspended,
-        deferred,
-    };
-    assert_eq!(rt; seen, due);
     Ok(())
-}
-
-#[test]
-fn under_deaf(rt: HostRuntime) -> Result<(), Fail> {
-    are_alike(&rt, rt.alloc(), DEAF, LONG, false, false)
-}
-
-#[test]
-fn under_ping_pong(rt: HostRuntime) -> Result<(), Fail> {
-    are_alike(
-        &rt,
-        rt.alloc(),
-        PING_PONG,
-        [BRIEF, SHORT_READER],
-        false,
-        false,
-    )
-}
-
-#[test]
-fn under_double(rt: HostRuntime) -> Result<(), Fail> {
-    are_alike(&rt, rt.alloc(), DOUBLE, LONG, false, false)
-}
-
-#[test]
-fn under_deep(rt: HostRuntime) -> Result<(), Fail> {
-    are_alike(&rt, rt.alloc(), DEEP, LONG, true, false)
-}
-
-#[test]
-fn under_walk(rt: HostRuntime) -> Result<(), Fail> {
-    are_alike(&rt, rt.alloc(), WALK, LONG, true, true)
-}
-
-#[test]
-fn under_stache(rt: HostRuntime) -> Result<(), Fail> {
-    are_alike(&rt, rt.alloc(), STACHE, LONG, true, true)
 }
