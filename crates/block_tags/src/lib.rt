@@ -8,8 +8,6 @@
 mod blocks;
 mod laws;
 mod packed;
-#[cfg(test)]
-mod tests;
 
 pub use blocks::Blocks;
 pub use laws::blocks_are_parts_of_the_words;

@@ -8,8 +8,6 @@ mod conts;
 mod packed;
 mod packing;
 mod record;
-#[cfg(test)]
-mod tests;
 
 pub use conts::Conts;
 pub use record::{Record, RecordKey};

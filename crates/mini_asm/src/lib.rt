@@ -14,8 +14,6 @@ mod parse;
 mod processor;
 mod program;
 mod spelling;
-#[cfg(test)]
-mod tests;
 
 pub use cpu::{Cpu, Next};
 pub use flat::Flat;

@@ -7,8 +7,6 @@
 mod parting;
 mod parts;
 mod request;
-#[cfg(test)]
-mod tests;
 mod words;
 
 pub use request::{Asked, Command};

@@ -15,8 +15,6 @@ mod node;
 mod node_set;
 mod shape;
 mod stack;
-#[cfg(test)]
-mod tests;
 mod value;
 
 pub use entry::{Access, Act, After, End, Entry, Event, Trap};

@@ -9,8 +9,6 @@ mod ends;
 mod memory;
 mod read;
 mod stdio;
-#[cfg(test)]
-mod tests;
 mod write;
 
 pub use ends::{Failed, Sink, Source};

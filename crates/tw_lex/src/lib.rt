@@ -7,8 +7,6 @@ mod bytes;
 mod laws;
 mod lexeme;
 mod split;
-#[cfg(test)]
-mod tests;
 mod token;
 
 pub use laws::{faults_are_first, lines_are_the_texts, no_line_is_left_out, tokens_are_slices};

@@ -1,6 +1,6 @@
 ghost use Rattle.std.specs.Prelude.{◌+◌, ◌^◌, ◌<◌, length};
 
-use crate::{Flat, Program, ProgramError, parse_program};
+use mini_asm::{Flat, Program, ProgramError, parse_program};
 use std::alloc::Global;
 use std::test::Fail;
 use tw_base::{Act, NodeId, Shape, Trap};

@@ -1,4 +1,4 @@
-use crate::{LexError, Lexed, What, lines};
+use tw_lex::{LexError, Lexed, What, lines};
 use std::alloc::Global;
 use std::fmt::Write;
 use std::test::Fail;

@@ -1,4 +1,4 @@
-use crate::{BlockId, Data, Listed, Memory, Name, NodeId, NodeSet, Shape, Stack};
+use tw_base::{BlockId, Data, Listed, Memory, Name, NodeId, NodeSet, Shape, Stack};
 use std::alloc::Global;
 use std::process::Abort;
 use std::test::Fail;

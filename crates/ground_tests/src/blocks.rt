@@ -1,4 +1,4 @@
-use crate::Blocks;
+use block_tags::Blocks;
 use std::test::Fail;
 use tw_base::{Access, BlockId, Data, NodeId, Shape, Tag};
 

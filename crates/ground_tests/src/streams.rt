@@ -1,4 +1,4 @@
-use crate::{
+use tw_io::{
     Failed, MemSink, MemSource, ReadError, StdSink, StdSource, read_all, write_all_counted,
 };
 use std::alloc::{AllocError, Global};

@@ -1,4 +1,4 @@
-use crate::{Asked, Command, WordsError, asked};
+use tempest_words::{Asked, Command, WordsError, asked};
 use std::alloc::Global;
 use std::test::Fail;
 

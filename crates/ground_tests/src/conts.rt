@@ -1,6 +1,6 @@
 ghost use Rattle.std.specs.Prelude.{◌≤◌};
 
-use crate::{Conts, Record, RecordKey};
+use cont_store::{Conts, Record, RecordKey};
 use std::alloc::Global;
 use std::process::Abort;
 use std::test::Fail;
