@@ -7,3 +7,4 @@ mod Scan
 mod Slices
 mod Spelled
 mod Splitting
+mod Stopping

@@ -52,7 +52,7 @@ code-one false false b bs f h ih =
     ap (λ k. code_of (take k (b ∷ bs))) n ∙ ap (λ v. take (cond (not v) (1 + k) 0) (b ∷ line)) h
     ∙ ap (λ j. take j (b ∷ line)) m ∙ ap (λ l. b ∷ l) ih ∙ ap (λ j. take j (b ∷ bs)) c
 
-code-first : (text : List ℕ) → code_of (first_line text) ≡ take (code_len text) text
+pub code-first : (text : List ℕ) → code_of (first_line text) ≡ take (code_len text) text
 code-first [] = refl
 code-first (b ∷ bs) = code-one (is_line_feed b) (b == 35) b bs refl refl (code-first bs)
 

@@ -1,9 +1,9 @@
 -- Going over a text, line by line.
-use Rattle.std.proofs.Common.{◌≡◌, ℕ, suc, ◌+◌, ◌-◌, ◌<◌, ◌≤◌, Bool, true, false, cond, List, [], ◌∷◌, ◌++◌, length, take, drop}
+use Rattle.std.proofs.Common.{◌≡◌, ℕ, suc, ◌+◌, ◌<◌, ◌≤◌, Bool, true, false, cond, List, [], ◌∷◌, ◌++◌, length, take, drop}
 use Rattle.std.proofs.Common.{Result, Ok, Err, refl, sym, ap, ◌∙◌, subst, append_assoc, arith}
 use Rattle.std.specs.Prelude.{not}
 use Rattle.std.specs.List.{position_or_len, onto_first}
-use Rattle.std.proofs.lemmas.List.{append-nil, drop_all, drop-drop, length-drop, take_rest}
+use Rattle.std.proofs.lemmas.List.{append-nil, drop_all, drop-drop, length-drop}
 use Rattle.std.proofs.lemmas.List.Folds.{length-prefix_len}
 use Rattle.std.proofs.lemmas.List.Sums.{prefix_len-le-length}
 use Rattle.tw_lex.specs.declared.token.Token.{Token}
@@ -93,11 +93,6 @@ module _ (text : List ℕ) (start : ℕ) (some : start < length text) where
       (line_tokens number start (first_line (drop start text))) total (λ d.
       let one : lines_from number start (lines_of (drop start text)) ≡ Err e = rw (lines_of-rest, d) refl in
       sym so_far ∙ ap (with_front front) one) due
-
--- the line as the code cuts it
-pub cut-line : (text : List ℕ) (start n : ℕ) → n ≡ first_len (take (length text - start) (drop start text)) →
-    take n (take (length text - start) (drop start text)) ≡ first_line (drop start text)
-cut-line text start n is = rw (is, take_rest text start) refl
 
 module _ (text : List ℕ) (start : ℕ) (line : List ℕ) (some : start < length text)
     (is_line : line ≡ first_line (drop start text)) where

@@ -1,6 +1,7 @@
-ghost use Rattle.std.specs.Prelude.{◌≡◌, ◌≤◌, ◌==◌, not, length};
-ghost use Rattle.std.specs.List.{list_all, position, position_or_len};
+ghost use Rattle.std.specs.Prelude.{◌≡◌, ◌≤◌, ◌==◌, ◌||◌, not, length};
+ghost use Rattle.std.specs.List.{position, position_or_len};
 ghost use Rattle.tw_lex.specs.Bytes.{is_line_feed, is_blank, is_allowed, is_digit, is_word_start, is_word_byte};
+ghost use Rattle.tw_lex.specs.Laws.{ends_code};
 
 pub fn is_blank(b: u8) -> bool
     ensures { result ≡ is_blank b }
@@ -15,11 +16,11 @@ pub fn is_allowed(b: u8) -> bool
     is_blank(b) || (33 <= b && b <= 126)
 }
 
-/// Whether each byte may stand outside a comment.
-pub fn is_code(bytes: &[u8]) -> bool
-    ensures { result ≡ list_all is_allowed bytes.now }
+/// Whether the code of a line ends before the byte: a line feed, or the `#` of a comment.
+pub fn ends_code(b: u8) -> bool
+    ensures { result ≡ ends_code b }
 {
-    bytes.iter().all(|b| is_allowed(*b))
+    b == b'\n' || b == b'#'
 }
 
 pub fn is_digit(b: u8) -> bool
@@ -47,6 +48,12 @@ fn find_byte(bytes: &[u8], byte: u8) -> Option<usize>
     bytes.iter().position(|b| *b == byte)
 }
 
+fn find_stop(text: &[u8]) -> Option<usize>
+    ensures { result ≡ position (λ b. ends_code b || not (is_allowed b)) text.now }
+{
+    text.iter().position(|b| ends_code(*b) || !is_allowed(*b))
+}
+
 fn find_no_word(bytes: &[u8]) -> Option<usize>
     ensures { result ≡ position (λ b. not (is_word_byte b)) bytes.now }
 {
@@ -62,12 +69,13 @@ pub fn line_len(text: &[u8]) -> usize
     find_byte(text, b'\n').unwrap_or(text.len())
 }
 
-/// How many bytes stand before a comment.
+/// How many bytes stand before the first one that ends the code of a line or may not stand in it.
 #[tactic(auto, using(crate::proofs::Positions::first_places))]
-pub fn code_len(line: &[u8]) -> usize
-    ensures { result ≡ position_or_len (λ b. b == 35) line.now }
+pub fn stop_len(text: &[u8]) -> usize
+    ensures value { result ≡ position_or_len (λ b. ends_code b || not (is_allowed b)) text.now }
+    ensures within { result ≤ length text.now }
 {
-    find_byte(line, b'#').unwrap_or(line.len())
+    find_stop(text).unwrap_or(text.len())
 }
 
 /// How many bytes of a word are at the front.

@@ -1,19 +1,27 @@
-ghost use Rattle.std.specs.Prelude.{◌≡◌, ◌+◌, ◌^◌, ◌++◌, ◌<◌, [], length, OnOk};
+ghost use Rattle.std.specs.Prelude.{◌≡◌, ◌+◌, ◌^◌, ◌++◌, ◌<◌, [], length, take, IfOk, OnOk};
 ghost use Rattle.tw_base.specs.Answers.{Gives};
+ghost use Rattle.std.specs.List.{position_or_len};
+ghost use Rattle.tw_lex.specs.Bytes.{is_line_feed};
 ghost use Rattle.tw_lex.specs.Lines.{is_memory, tokens_of, line_tokens, with_line, lexed};
 
-use crate::bytes::{code_len, is_blank, is_code, line_len};
+use crate::bytes::{ends_code, is_blank, line_len, stop_len};
 use crate::lexeme::lexeme;
 use crate::token::{LexError, Lexed, Line, Token};
 use std::alloc::Global;
 use tw_base::{Listed, Memory};
 
-/// The tokens of the code of a line, which begins at `start` in the text.
-fn tokens_of(alloc: Global, number: u32, start: usize, code: &[u8]) -> Result<Vec<Token>, LexError>
-    requires { start + length code.now < 2 ^ 32 }
-    ensures { Gives is_memory (λ v. v.items) result (tokens_of number start code.now) }
+// Puts the tokens of the code of a line, which begins at `start` in the text, on a list that is empty.
+fn add_tokens(
+    alloc: Global,
+    number: u32,
+    start: usize,
+    code: &[u8],
+    tokens: &mut Vec<Token>,
+) -> Result<(), LexError>
+    requires within { start + length code.now < 2 ^ 32 }
+    requires empty { tokens.old.items ≡ [] }
+    ensures { Gives is_memory (λ u. tokens.new.items) result (tokens_of number start code.now) }
 {
-    let mut tokens = Vec::new(alloc);
     let mut at = 0;
     while at < code.len() {
         if is_blank(code[at]) {
@@ -31,31 +39,45 @@ fn tokens_of(alloc: Global, number: u32, start: usize, code: &[u8]) -> Result<Ve
         tokens.push(token)?;
         at += len;
     }
-    Ok(tokens)
+    Ok(())
 }
 
-fn line_tokens(
+// Puts the tokens of the first line on a list that is empty, and says how long the line is.
+fn add_line_tokens(
     alloc: Global,
     number: u32,
     start: usize,
-    line: &[u8],
-) -> Result<Vec<Token>, LexError>
-    requires { start + length line.now < 2 ^ 32 }
-    ensures { Gives is_memory (λ v. v.items) result (line_tokens number start line.now) }
+    text: &[u8],
+    tokens: &mut Vec<Token>,
+) -> Result<usize, LexError>
+    requires within { start + length text.now < 2 ^ 32 }
+    requires empty { tokens.old.items ≡ [] }
+    ensures tokens { Gives is_memory (λ len. tokens.new.items) result
+        (line_tokens number start (take (position_or_len is_line_feed text.now) text.now)) }
+    ensures len { IfOk result (λ len. len ≡ position_or_len is_line_feed text.now) }
 {
-    let code = &line[..code_len(line)];
-    if !is_code(code) {
+    let stop = stop_len(text);
+    if stop < text.len() && !ends_code(text[stop]) {
         return Err(LexError::NotAscii { line: number });
     }
-    tokens_of(alloc, number, start, code)
+    add_tokens(alloc, number, start, &text[..stop], tokens)?;
+    Ok(stop + line_len(&text[stop..]))
 }
 
-// A line with no token is left out.
-fn push_line(list: &mut Vec<Line>, number: u32, tokens: Vec<Token>) -> Result<(), Memory>
-    ensures { OnOk result (list.new.items ≡ list.old.items ++ with_line number tokens.items []) }
+// Moves the tokens of a line into a list that has no room but for them. A line with no token is left out.
+fn push_line(
+    alloc: Global,
+    list: &mut Vec<Line>,
+    number: u32,
+    tokens: &mut Vec<Token>,
+) -> Result<(), Memory>
+    ensures list { OnOk result (list.new.items ≡ list.old.items ++ with_line number tokens.old.items []) }
+    ensures empty { OnOk result (tokens.new.items ≡ []) }
 {
     if !tokens.is_empty() {
-        let tokens = Listed::of(tokens);
+        let mut kept = Vec::with_capacity(alloc, tokens.len())?;
+        kept.append(tokens)?;
+        let tokens = Listed::of(kept);
         list.push(Line { number, tokens })?;
     }
     Ok(())
@@ -67,15 +89,14 @@ pub fn lines(alloc: Global, text: &[u8]) -> Result<Lexed, LexError>
     ensures { Gives is_memory (λ found. found) result (lexed text.now) }
 {
     let mut list = Vec::new(alloc);
+    let mut tokens = Vec::new(alloc);
     let mut all: u32 = 0;
     let mut start = 0;
     while start < text.len() {
-        let rest = &text[start..];
-        let line = &rest[..line_len(rest)];
         all += 1;
-        let tokens = line_tokens(alloc, all, start, line)?;
-        push_line(&mut list, all, tokens)?;
-        start += line.len() + 1;
+        let len = add_line_tokens(alloc, all, start, &text[start..], &mut tokens)?;
+        push_line(alloc, &mut list, all, &mut tokens)?;
+        start += len + 1;
     }
     Ok(Lexed {
         all,

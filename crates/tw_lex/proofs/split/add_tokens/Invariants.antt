@@ -1,7 +1,7 @@
 use Rattle.std.proofs.Common.{◌≡◌, ◌+◌, ◌-◌, ◌≤◌, length, drop}
 use Rattle.tw_lex.specs.Lines.{tokens_from}
 use Rattle.tw_lex.proofs.Scan.{with_front}
-use Rattle.tw_lex.proofs.split.tokens_of.Given as goal
+use Rattle.tw_lex.proofs.split.add_tokens.Given as goal
 
 abbrev pub invariant-loop-at : goal.invariant-loop-at
 invariant-loop-at l =

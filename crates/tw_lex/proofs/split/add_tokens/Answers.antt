@@ -3,8 +3,8 @@ use Rattle.std.proofs.lemmas.List.{take_rest}
 use Rattle.tw_lex.specs.Lexemes.{lexeme}
 use Rattle.tw_lex.specs.Lines.{or_bad}
 use Rattle.tw_lex.proofs.Scan.{lexeme-size, scan-blank, scan-token, scan-bad, scan-end}
-use Rattle.tw_lex.proofs.split.tokens_of.Goals as goal
-use Rattle.tw_lex.proofs.split.tokens_of.Goals.{In-Some}
+use Rattle.tw_lex.proofs.split.add_tokens.Goals as goal
+use Rattle.tw_lex.proofs.split.add_tokens.Goals.{In-Some}
 
 -- the token that was found
 found : (c : In-Some) → Some (c.in-Some.what, c.in-Some.len) ≡ lexeme (drop c.loop-at.at c.args.code.now)
