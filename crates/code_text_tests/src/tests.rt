@@ -18,7 +18,7 @@ fn protocol(alloc: Global, text: &[u8]) -> Result<Checked, Fail> {
     texts_have_text_lines();
     read_trees_are_given();
     let found = lines(alloc, text)?;
-    let protocol = parse(alloc, found.list.items(), found.all)?;
+    let protocol = parse(alloc, found.list, found.all)?;
     match check(alloc, protocol) {
         Ok(checked) => Ok(checked),
         Err(_) => Err(Memory)?,

@@ -21,7 +21,7 @@ pub fn protocol(alloc: alloc::Global, text: &[u8]) -> Result<Checked, Fail> {
     texts_have_text_lines();
     read_trees_are_given();
     let found = lines(alloc, text)?;
-    let protocol = parse(alloc, found.list.items(), found.all)?;
+    let protocol = parse(alloc, found.list, found.all)?;
     Ok(check(alloc, protocol)?)
 }
 
@@ -41,7 +41,7 @@ pub fn setup(alloc: alloc::Global, text: &str, protocol: Checked) -> Result<Setu
     }
     let settings = settings_in(alloc, text.as_bytes())?;
     let version = settings.version();
-    let (shape, init, programs) = settings.into_parts();
+    let (shape, init, programs, _) = settings.into_parts();
     Ok(Setup::new(version, shape, init, programs, protocol))
 }
 

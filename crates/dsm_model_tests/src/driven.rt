@@ -78,7 +78,7 @@ fn setup(alloc: alloc::Global, text: &str, protocol: Checked) -> Result<Setup, F
     }
     let settings = settings_in(alloc, text.as_bytes())?;
     let version = settings.version();
-    let (shape, init, programs) = settings.into_parts();
+    let (shape, init, programs, _) = settings.into_parts();
     Ok(Setup::new(version, shape, init, programs, protocol))
 }
 

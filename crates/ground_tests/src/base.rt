@@ -1,7 +1,7 @@
-use tw_base::{BlockId, Data, Listed, Memory, Name, NodeId, NodeSet, Shape, Stack};
 use std::alloc::Global;
 use std::process::Abort;
 use std::test::Fail;
+use tw_base::{BlockId, Data, Listed, Memory, Name, NodeId, NodeSet, Shape, Stack};
 
 // Nodes, words, blocks and budget, and whether they are a shape.
 const SHAPES: [(u8, u8, u8, u32, bool); 18] = [

@@ -1,7 +1,7 @@
-use tw_lex::{LexError, Lexed, What, lines};
 use std::alloc::Global;
 use std::fmt::Write;
 use std::test::Fail;
+use tw_lex::{LexError, Lexed, What, lines};
 
 // How many lines there are, and each token with its place in the text.
 fn shown(alloc: Global, lexed: &Lexed) -> Result<String, Fail> {

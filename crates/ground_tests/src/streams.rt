@@ -1,8 +1,8 @@
+use std::alloc::{AllocError, Global};
+use std::test::Fail;
 use tw_io::{
     Failed, MemSink, MemSource, ReadError, StdSink, StdSource, read_all, write_all_counted,
 };
-use std::alloc::{AllocError, Global};
-use std::test::Fail;
 
 const TEXT: &[u8] = b"twenty-one bytes long";
 

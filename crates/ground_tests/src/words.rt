@@ -1,6 +1,6 @@
-use tempest_words::{Asked, Command, WordsError, asked};
 use std::alloc::Global;
 use std::test::Fail;
+use tempest_words::{Asked, Command, WordsError, asked};
 
 /// The words of a command line, and what they ask for.
 const TABLE: &str = "=> nothing

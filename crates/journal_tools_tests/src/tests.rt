@@ -64,7 +64,7 @@ const FIRST: usize = 20;
 fn setup(alloc: Global) -> Result<Setup, Fail> {
     let settings = settings_in(alloc, INPUT.as_bytes())?;
     let version = settings.version();
-    let (shape, init, programs) = settings.into_parts();
+    let (shape, init, programs, _) = settings.into_parts();
     Ok(Setup::new(version, shape, init, programs, stache(alloc)?))
 }
 

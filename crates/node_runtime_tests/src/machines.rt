@@ -34,7 +34,7 @@ pub fn setup(alloc: Global, text: &str) -> Result<Setup, Fail> {
     }
     let settings = settings_in(alloc, text.as_bytes())?;
     let version = settings.version();
-    let (shape, init, programs) = settings.into_parts();
+    let (shape, init, programs, _) = settings.into_parts();
     Ok(Setup::new(version, shape, init, programs, stache(alloc)?))
 }
 

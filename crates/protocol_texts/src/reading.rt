@@ -30,7 +30,7 @@ fn text_tree(alloc: Global, text: &[u8]) -> Result<Protocol, Memory>
     ensures { IfOk result (λ p. protocol_of text.now ≡ Some p) }
 {
     let found = text_lines(alloc, text)?;
-    match parse(alloc, found.list.items(), found.all) {
+    match parse(alloc, found.list, found.all) {
         Ok(protocol) => Ok(protocol),
         Err(ParseError::Memory) => Err(Memory),
         Err(ParseError::BadLine { line: _ }) => unreachable!(),

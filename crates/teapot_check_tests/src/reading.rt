@@ -14,7 +14,7 @@ pub fn checked(alloc: Global, text: &[u8]) -> Result<Option<(u32, Rule)>, Fail> 
     texts_have_text_lines();
     read_trees_are_given();
     let found = lines(alloc, text)?;
-    let protocol = parse(alloc, found.list.items(), found.all)?;
+    let protocol = parse(alloc, found.list, found.all)?;
     match check(alloc, protocol) {
         Ok(_) => Ok(None),
         Err(CheckError::Broken { line, rule }) => Ok(Some((line, rule))),

@@ -47,33 +47,29 @@ pub bad-misses : {Y : Type 0} (e : ReadError) (due : Option Y) → e ≡ Bad →
 bad-misses Bad due is h = h
 bad-misses Memory due is h = absurd cc
 
-pub forms-on : (profile : ℕ) (ls : List Line) (at : ℕ) (x : Line) (form : Form Cut) (done : List Placed)
-    (all : Result (List Placed) ParseError) → at < length ls → x ≡ get_or ls at x
-    → form_of profile (map (seen profile) x.tokens) ≡ Some form → after_forms done (forms_read profile (drop at ls)) ≡ all
-    → after_forms (done ++ record { line = x.number; form = form } ∷ []) (forms_read profile (drop (at + 1) ls)) ≡ all
+pub forms-on : (profile : ℕ) (x : Line) (rest : List Line) (form : Form Cut) (done : List Placed)
+    (all : Result (List Placed) ParseError) → form_of profile (map (seen profile) x.tokens) ≡ Some form
+    → after_forms done (forms_read profile (x ∷ rest)) ≡ all
+    → after_forms (done ++ record { line = x.number; form = form } ∷ []) (forms_read profile rest) ≡ all
 unfolding forms_read
-forms-on profile ls at x form done all lt item is so_far =
-    let rest = forms_read profile (drop (at + 1) ls) in
-    let one : forms_read profile (x ∷ drop (at + 1) ls) ≡ (rest >>= λ ps. Ok (record { line = x.number; form = form } ∷ ps)) =
-    rw is refl in
-    sym (regroup done (record { line = x.number; form = form }) rest) ∙ ap (after_forms done) (sym one)
-    ∙ ap (λ us. after_forms done (forms_read profile us)) (sym (item-first ls at x lt item)) ∙ so_far
+forms-on profile x rest form done all is so_far =
+    let one : forms_read profile (x ∷ rest)
+    ≡ (forms_read profile rest >>= λ ps. Ok (record { line = x.number; form = form } ∷ ps)) = rw is refl in
+    sym (regroup done (record { line = x.number; form = form }) (forms_read profile rest)) ∙ ap (after_forms done) (sym one)
+    ∙ so_far
 
-pub forms-bad : (profile : ℕ) (ls : List Line) (at : ℕ) (x : Line) (done : List Placed)
-    (all : Result (List Placed) ParseError) → at < length ls → x ≡ get_or ls at x
-    → form_of profile (map (seen profile) x.tokens) ≡ None → after_forms done (forms_read profile (drop at ls)) ≡ all →
+pub forms-bad : (profile : ℕ) (x : Line) (rest : List Line) (done : List Placed) (all : Result (List Placed) ParseError)
+    → form_of profile (map (seen profile) x.tokens) ≡ None → after_forms done (forms_read profile (x ∷ rest)) ≡ all →
     all ≡ Err (BadLine x.number)
 unfolding forms_read
-forms-bad profile ls at x done all lt item is so_far =
-    let one : forms_read profile (x ∷ drop (at + 1) ls) ≡ Err (BadLine x.number) = rw is refl in
-    sym so_far ∙ ap (λ us. after_forms done (forms_read profile us)) (item-first ls at x lt item) ∙ ap (after_forms done) one
+forms-bad profile x rest done all is so_far =
+    let one : forms_read profile (x ∷ rest) ≡ Err (BadLine x.number) = rw is refl in
+    sym so_far ∙ ap (after_forms done) one
 
-pub forms-end : (profile : ℕ) (ls : List Line) (at : ℕ) (done : List Placed) (all : Result (List Placed) ParseError) →
-    length ls ≤ at → after_forms done (forms_read profile (drop at ls)) ≡ all → all ≡ Ok done
+pub forms-end : (profile : ℕ) (done : List Placed) (all : Result (List Placed) ParseError) →
+    after_forms done (forms_read profile []) ≡ all → all ≡ Ok done
 unfolding forms_read
-forms-end profile ls at done all le so_far =
-    let one : forms_read profile (drop at ls) ≡ Ok [] = ap (forms_read profile) (drop_all at ls le) in
-    sym so_far ∙ ap (after_forms done) one ∙ ap Ok (append-nil done)
+forms-end profile done all so_far = sym so_far ∙ ap Ok (append-nil done)
 
 -- ---- the counts
 

@@ -10,7 +10,7 @@ use crate::placed::Placed;
 use std::alloc::{AllocError, AllocFailed, Global};
 use teapot_lines::{ReadError, form_of};
 use teapot_tree::{Keyword, Protocol, keyword_of};
-use tw_base::Memory;
+use tw_base::{Listed, Memory, Stack};
 use tw_lex::{Line, What};
 
 /// Why lines are no protocol, in the order in which refusals are found.
@@ -81,11 +81,13 @@ fn profile_of(lines: &[Line]) -> u8
     if names_two_in(lines) { 2 } else { 1 }
 }
 
-fn forms_read(alloc: Global, profile: u8, lines: &[Line]) -> Result<Vec<Placed>, ParseError>
-    ensures { Gives is_memory (λ forms. forms.items) result (forms_read profile lines.now) }
+// Each line is let go once it is read.
+fn forms_read(alloc: Global, profile: u8, lines: Listed<Line>) -> Result<Vec<Placed>, ParseError>
+    ensures { Gives is_memory (λ forms. forms.items) result (forms_read profile lines) }
 {
+    let mut left = Stack::of(lines.into_vec());
     let mut forms = Vec::new(alloc);
-    for line in lines {
+    'lines: while let Some(line) = left.pop() {
         let form = match form_of(alloc, profile, line.tokens.items()) {
             Ok(form) => form,
             Err(ReadError::Bad) => return Err(ParseError::BadLine { line: line.number }),
@@ -159,10 +161,10 @@ fn whole(parts: Parts, after: u32) -> Result<Protocol, ParseError>
 
 /// The protocol of these lines. `after` is the number of the line behind them, named where something is missing.
 #[tactic(auto, unfolding(crate::specs::Parsing::parsed))]
-pub fn parse(alloc: Global, lines: &[Line], after: u32) -> Result<Protocol, ParseError>
-    ensures { Gives is_memory (λ p. p) result (parsed lines.now after) }
+pub fn parse(alloc: Global, lines: Listed<Line>, after: u32) -> Result<Protocol, ParseError>
+    ensures { Gives is_memory (λ p. p) result (parsed lines after) }
 {
-    let forms = forms_read(alloc, profile_of(lines), lines)?;
+    let forms = forms_read(alloc, profile_of(lines.items()), lines)?;
     check_nesting(alloc, &forms, after)?;
     check_limits(&forms)?;
     let parts = built(alloc, forms)?;

@@ -16,7 +16,7 @@ fn read(alloc: Global, text: &[u8]) -> Result<Result<Protocol, ParseError>, LexE
         return Err(LexError::Memory);
     }
     let lexed = lines(alloc, text)?;
-    Ok(parse(alloc, lexed.list.items(), lexed.all.saturating_add(1)))
+    Ok(parse(alloc, lexed.list, lexed.all.saturating_add(1)))
 }
 
 // The canonical text of the protocol that a text is.

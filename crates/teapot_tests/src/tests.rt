@@ -114,7 +114,7 @@ pub fn protocol(alloc: Global, text: &[u8]) -> Result<Protocol, Fail> {
         return Err(Fail::new("a long text"));
     }
     let lexed = lines(alloc, text)?;
-    Ok(parse(alloc, lexed.list.items(), 0)?)
+    Ok(parse(alloc, lexed.list, 0)?)
 }
 
 pub fn handled(alloc: Global, p: &Protocol, here: &Here, m: &Message) -> Result<Ended, Fail> {

@@ -80,11 +80,12 @@ impl Settings {
         &self.protocol
     }
 
-    /// The shape, the words that are given at the start, and a program for each node.
-    pub fn into_parts(self) -> (Shape, Listed<(u32, u64)>, Listed<Program>)
+    /// The shape, the words that are given at the start, a program for each node, and the protocol as the text chooses it.
+    pub fn into_parts(self) -> (Shape, Listed<(u32, u64)>, Listed<Program>, Choice)
         ensures shape { result.0 ≡ self.shape }
         ensures init { result.1 ≡ self.init }
         ensures programs { result.2 ≡ self.programs }
+        ensures protocol { result.3 ≡ self.protocol }
         ensures valid { AreSettings self }
     {
         let Settings {
@@ -92,9 +93,9 @@ impl Settings {
             shape,
             init,
             programs,
-            protocol: _,
+            protocol,
         } = self;
-        (shape, init, programs)
+        (shape, init, programs, protocol)
     }
 }
 

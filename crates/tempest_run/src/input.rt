@@ -4,8 +4,8 @@ ghost use Rattle.tw_base.specs.Answers.{Gives};
 ghost use Rattle.teapot_tree.specs.Grammar.{IsTree};
 ghost use Rattle.teapot_parse.specs.Given.{AreTextLines};
 ghost use Rattle.tempest_input.specs.Layout.{is_memory};
-ghost use Rattle.tempest_run.specs.Inputs.{IsOfText, accepted, broken_rule, input_of, protocol_of, section_protocol, setup_in};
-ghost use Rattle.tempest_run.specs.Inputs.{shipped_protocol, under};
+ghost use Rattle.tempest_run.specs.Inputs.{IsOfText, accepted, broken_rule, input_of, protocol_of, section_protocol};
+ghost use Rattle.tempest_run.specs.Inputs.{setup_in, shipped_protocol};
 
 use dsm_runs::Setup;
 use stache_d_protocol::stache_d;
@@ -16,8 +16,7 @@ use teapot_check::{CheckError, check};
 use teapot_parse::{ParseError, parse, read_trees_are_given, texts_have_text_lines};
 use teapot_tree::{Checked, Protocol, Rule};
 use tempest_input::{
-    Body, Choice, Ending, InputError, Settings, Shipped, Why, layout_is_read_both_ways,
-    settings_and_report,
+    Body, Choice, Ending, InputError, Shipped, Why, layout_is_read_both_ways, settings_and_report,
 };
 
 fn refused(line: u32, why: Why) -> InputError
@@ -58,12 +57,12 @@ fn accepted(alloc: Global, protocol: Protocol) -> Result<Checked, InputError>
 }
 
 #[tactic(auto, unfolding(crate::specs::Inputs::section_protocol))]
-fn section_protocol(alloc: Global, body: &Body) -> Result<Checked, InputError>
-    requires { AreTextLines body.now.lines }
-    ensures { Gives is_memory (λ p. p) result (section_protocol body.now) }
+fn section_protocol(alloc: Global, body: Body) -> Result<Checked, InputError>
+    requires { AreTextLines body.lines }
+    ensures { Gives is_memory (λ p. p) result (section_protocol body) }
 {
     read_trees_are_given();
-    match parse(alloc, body.lines.items(), body.end) {
+    match parse(alloc, body.lines, body.end) {
         Ok(protocol) => accepted(alloc, protocol),
         Err(ParseError::BadLine { line }) => Err(refused(line, Why::BadLine)),
         Err(ParseError::BadNest { line }) => Err(refused(line, Why::BadNest)),
@@ -84,24 +83,15 @@ fn shipped_protocol(alloc: Global, which: Shipped) -> Result<Checked, InputError
 
 // The protocol of the text's section, or the one that it names, else Stache.
 #[tactic(auto, unfolding(crate::specs::Inputs::protocol_of))]
-fn protocol_of(alloc: Global, choice: &Choice) -> Result<Checked, InputError>
-    requires { IsOfText choice.now }
-    ensures { Gives is_memory (λ p. p) result (protocol_of choice.now) }
+fn protocol_of(alloc: Global, choice: Choice) -> Result<Checked, InputError>
+    requires { IsOfText choice }
+    ensures { Gives is_memory (λ p. p) result (protocol_of choice) }
 {
     match choice {
         Choice::Own(_, body) => section_protocol(alloc, body),
         Choice::Default => shipped_protocol(alloc, Shipped::Stache),
-        Choice::Shipped(_, which) => shipped_protocol(alloc, *which),
+        Choice::Shipped(_, which) => shipped_protocol(alloc, which),
     }
-}
-
-// The settings of a text, under a protocol.
-fn under(settings: Settings, protocol: Checked) -> Setup
-    ensures { result ≡ under settings protocol }
-{
-    let version = settings.version();
-    let (shape, init, programs) = settings.into_parts();
-    Setup::new(version, shape, init, programs, protocol)
 }
 
 /// What a text sets up and the lines of its report, or its first fault.
@@ -117,8 +107,10 @@ pub fn read_with_report(
     texts_have_text_lines();
     layout_is_read_both_ways();
     let (settings, report) = settings_and_report(alloc, ending, text)?;
-    let protocol = protocol_of(alloc, settings.protocol())?;
-    Ok((under(settings, protocol), report))
+    let version = settings.version();
+    let (shape, init, programs, choice) = settings.into_parts();
+    let protocol = protocol_of(alloc, choice)?;
+    Ok((Setup::new(version, shape, init, programs, protocol), report))
 }
 
 /// What a text without a report sets up, or its first fault. The text has at most 1,048,576 bytes.

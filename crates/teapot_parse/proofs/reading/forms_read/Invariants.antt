@@ -1,8 +1,10 @@
-use Rattle.std.proofs.Common.{◌≡◌, drop}
+use Rattle.std.proofs.Common.{◌≡◌, length}
 use Rattle.teapot_parse.specs.Parsing.{forms_read}
 use Rattle.teapot_parse.proofs.Steps.{after_forms}
 use Rattle.teapot_parse.proofs.reading.forms_read.Given as goal
 
-abbrev pub invariant-loop-line : goal.invariant-loop-line
-invariant-loop-line l = after_forms l.forms.items (forms_read l.profile (drop l.line-index l.lines))
-    ≡ forms_read l.profile l.lines
+abbrev pub invariant-lines : goal.invariant-lines
+invariant-lines l = after_forms l.forms.items (forms_read l.profile l.left) ≡ forms_read l.profile l.fn.lines
+
+abbrev pub decreases-lines : goal.decreases-lines
+decreases-lines l = length l.left

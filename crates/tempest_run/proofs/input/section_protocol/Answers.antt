@@ -1,4 +1,4 @@
 use Rattle.tempest_run.proofs.input.section_protocol.Goals as goal
 
 pub accepted-requires : goal.accepted-requires
-accepted-requires c = (c.read_trees_are_given.ensures _ _ _ (rw c.items.ensures c.requires) c.in-Ok.ensures).0
+accepted-requires c = (c.read_trees_are_given.ensures _ _ _ c.requires c.in-Ok.ensures).0
