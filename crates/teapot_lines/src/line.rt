@@ -17,7 +17,8 @@ use teapot_tree::{Keyword, ValType, keyword_of};
 use tw_base::{Chan, Listed, Name};
 use tw_lex::{Mark, Token, What};
 
-/// Nothing stands behind the form.
+/// Nothing stands behind the form. In line, the form is made where it is wanted, and not moved there.
+#[inline(always)]
 fn ended(profile: u8, tokens: &[Token], form: Form<Cut>) -> Result<Form<Cut>, ReadError>
     ensures { Reads (λ f. f) result (ended (map (seen profile) tokens.now) form) }
 {
