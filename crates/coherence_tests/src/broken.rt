@@ -2,7 +2,7 @@ use crate::reading::{make, protocol, setup, verdict};
 use coherence_check::{Broken, holds, holds_d, holds_l};
 use coherence_reads::Part;
 use driven_rows::COPY_KEPT;
-use dsm_model::Global;
+use dsm_model::{Global, Setup};
 use shipped_text::STACHE;
 use stache_check::Directory;
 use stache_d_text::STACHE_D;
@@ -113,99 +113,192 @@ fn parts_of(
     Ok(held)
 }
 
-// Under the protocol with this edit, these parts hold of block 1 after the events. The state breaks part 1, since the protocol is
-// another.
+/// An edit of a protocol, and what it breaks.
+struct Edit {
+    /// What stands in the protocol's text, and what it says instead.
+    old: &'static str,
+    new: &'static str,
+    /// The machine, the events that are made, and which parts then hold of block 1.
+    text: &'static str,
+    events: &'static str,
+    held: &'static str,
+}
+
+// Makes events, each of which is enabled.
+fn make_all(
+    rt: &impl Abort,
+    alloc: alloc::Global,
+    g: &mut Global,
+    events: &str,
+) -> Result<(), Fail> {
+    let mut entries = Listed::new(alloc);
+    for row in events.split('\n') {
+        let made = make(alloc, g, row, &mut entries)?;
+        assert!(rt; made.as_str() == "made", "at {row}");
+    }
+    Ok(())
+}
+
+// The machine under the protocol with this edit.
+fn machine(alloc: alloc::Global, directory: Directory, edit: &Edit) -> Result<Setup, Fail> {
+    let own = edited(alloc, text_of(directory), edit.old, edit.new)?;
+    setup(alloc, edit.text, protocol(alloc, own.as_bytes())?)
+}
+
+/// The state breaks part 1 of block 0, since the protocol is another than the one that it is held against.
+pub fn is_another(rt: &impl Abort, directory: Directory, g: &Global) {
+    let broken = Broken {
+        block: BlockId::new(0).unwrap(),
+        part: 1,
+    };
+    assert!(rt; verdict(directory, g) == Err(broken));
+}
+
+// Under the protocol with this edit, these parts hold of block 1 after the events.
 fn breaks(
     rt: &impl Abort,
     alloc: alloc::Global,
     directory: Directory,
-    edit: (&str, &str),
-    text: &str,
-    events: &str,
-    due: &str,
+    edit: &Edit,
 ) -> Result<(), Fail> {
-    let own = edited(alloc, text_of(directory), edit.0, edit.1)?;
-    let setup = setup(alloc, text, protocol(alloc, own.as_bytes())?)?;
+    let setup = machine(alloc, directory, edit)?;
     let mut g = Global::new(alloc, &setup)?;
-    let mut entries = Listed::new(alloc);
-    for row in events.split('\n') {
-        let made = make(alloc, &mut g, row, &mut entries)?;
-        assert_eq!(rt; made.as_str(), "made", "at {row}");
-    }
-    let first = BlockId::new(0).unwrap();
-    let broken = Broken {
-        block: first,
-        part: 1,
-    };
-    assert_eq!(rt; verdict(directory, &g), Err(broken));
+    make_all(rt, alloc, &mut g, edit.events)?;
+    is_another(rt, directory, &g);
     let held = parts_of(alloc, &g, directory, BlockId::new(1).unwrap())?;
-    assert_eq!(rt; held.as_str(), due);
+    assert!(rt;
+        held.as_str() == edit.held,
+        "{} holds for {}",
+        held.as_str(),
+        edit.new
+    );
     Ok(())
 }
+
+fn all_break(
+    rt: &impl Abort,
+    alloc: alloc::Global,
+    directory: Directory,
+    edits: &[Edit],
+) -> Result<(), Fail> {
+    for edit in edits {
+        breaks(rt, alloc, directory, edit)?;
+    }
+    Ok(())
+}
+
+const STACHE_EDITS: [Edit; 6] = [
+    // A cache leaves other statements to be done when its data has come.
+    Edit {
+        old: "Suspend(L, Cache_Wait_RO{; L})\n    WakeUp\n    SetState(Cache_RO{})",
+        new: "Suspend(L, Cache_Wait_RO{; L})\n    SetState(Cache_RO{})\n    WakeUp",
+        text: READER,
+        events: "I 0",
+        held: "34567",
+    },
+    // The home sends a message that caches send.
+    Edit {
+        old: "Send(src, DATA_RO)",
+        new: "Send(src, PUT)",
+        text: READER,
+        events: "I 0\nD 1 0 0",
+        held: "267",
+    },
+    // A cache asks twice.
+    Edit {
+        old: "Send(home, GET_RO)",
+        new: "Send(home, GET_RO)\n    Send(home, GET_RO)",
+        text: READER,
+        events: "I 0",
+        held: "2367",
+    },
+    // The home forgets its sharer.
+    Edit {
+        old: "sharers := One(src)",
+        new: "sharers := Empty",
+        text: READER,
+        events: "I 0\nD 1 0 0",
+        held: "23467",
+    },
+    // A cache does not install what has come.
+    Edit {
+        old: "Install\n    SetTag(ReadOnly)",
+        new: "SetTag(ReadOnly)",
+        text: READER,
+        events: "I 1\nI 1\nI 0\nD 1 0 0\nD 0 1 1",
+        held: "23457",
+    },
+    // The home defers a request that it could serve.
+    Edit {
+        old: "owner := src\n    SetTag(Invalid)\n    Send(src, DATA_RW)\n    SetState(Home_Excl{})",
+        new: "Enqueue",
+        text: WRITER,
+        events: "I 0\nD 1 0 0",
+        held: "23456",
+    },
+];
 
 #[test]
 fn each_part_breaks(rt: HostRuntime) -> Result<(), Fail> {
     let alloc = rt.alloc();
-    let own = Directory::Stache;
-    // A cache leaves other statements to be done when its data has come.
-    let rest = (
-        "Suspend(L, Cache_Wait_RO{; L})\n    WakeUp\n    SetState(Cache_RO{})",
-        "Suspend(L, Cache_Wait_RO{; L})\n    SetState(Cache_RO{})\n    WakeUp",
-    );
-    breaks(&rt, alloc, own, rest, READER, "I 0", "34567")?;
-    // The home sends a message that caches send.
-    let put = ("Send(src, DATA_RO)", "Send(src, PUT)");
-    breaks(&rt, alloc, own, put, READER, "I 0\nD 1 0 0", "267")?;
-    // A cache asks twice.
-    let twice = (
-        "Send(home, GET_RO)",
-        "Send(home, GET_RO)\n    Send(home, GET_RO)",
-    );
-    breaks(&rt, alloc, own, twice, READER, "I 0", "2367")?;
-    // The home forgets its sharer.
-    let forgotten = ("sharers := One(src)", "sharers := Empty");
-    breaks(&rt, alloc, own, forgotten, READER, "I 0\nD 1 0 0", "23467")?;
-    // A cache does not install what has come.
-    let stale = ("Install\n    SetTag(ReadOnly)", "SetTag(ReadOnly)");
-    let events = "I 1\nI 1\nI 0\nD 1 0 0\nD 0 1 1";
-    breaks(&rt, alloc, own, stale, READER, events, "23457")?;
-    // The home defers a request that it could serve.
-    let deferred = (
-        "owner := src\n    SetTag(Invalid)\n    Send(src, DATA_RW)\n    SetState(Home_Excl{})",
-        "Enqueue",
-    );
-    breaks(&rt, alloc, own, deferred, WRITER, "I 0\nD 1 0 0", "23456")
+    all_break(&rt, alloc, Directory::Stache, &STACHE_EDITS)
 }
+
+const ASKED: &str = "I 0\nI 0\nD 1 0 0\nD 0 1 1\nI 0\nI 1";
+
+const ANSWERED: &str = "I 0\nI 0\nD 1 0 0\nD 0 1 1\nI 0\nI 1\nD 0 1 1";
+
+const SHARED: &str = "I 0\nI 0\nD 1 0 0\nD 0 1 1\nI 0\nI 1\nD 0 1 1\nD 1 0 1";
+
+const WRITTEN: &str = "I 0\nI 0\nD 1 0 0\nD 0 1 1\nI 0\nI 1\nD 0 1 1\nI 0";
+
+const STACHE_D_EDITS: [Edit; 5] = [
+    // The home leaves other statements to be done when the owner has answered.
+    Edit {
+        old: "SetTag(ReadOnly)\n    WakeUp\n    SetState(Home_RO{})",
+        new: "WakeUp\n    SetTag(ReadOnly)\n    SetState(Home_RO{})",
+        text: COPY_KEPT,
+        events: ASKED,
+        held: "34567",
+    },
+    // The owner answers as one that gives its block back.
+    Edit {
+        old: "Send(src, PUT_RO)",
+        new: "Send(src, PUT)",
+        text: COPY_KEPT,
+        events: ANSWERED,
+        held: "23467",
+    },
+    // The owner keeps ReadWrite, and writes its copy.
+    Edit {
+        old: "SetTag(ReadOnly)\n    Send(src, PUT_RO)",
+        new: "Send(src, PUT_RO)",
+        text: COPY_KEPT,
+        events: WRITTEN,
+        held: "23457",
+    },
+    // The home forgets that the owner has a copy.
+    Edit {
+        old: "sharers := One(owner)",
+        new: "sharers := Empty",
+        text: COPY_KEPT,
+        events: SHARED,
+        held: "23467",
+    },
+    // The home keeps its stale copy.
+    Edit {
+        old: "On PUT_RO()\n  Begin\n    Install",
+        new: "On PUT_RO()\n  Begin",
+        text: COPY_KEPT,
+        events: SHARED,
+        held: "23457",
+    },
+];
 
 #[test]
 fn each_part_breaks_under_stache_d(rt: HostRuntime) -> Result<(), Fail> {
     let alloc = rt.alloc();
-    let own = Directory::StacheD;
-    let asked = "I 0\nI 0\nD 1 0 0\nD 0 1 1\nI 0\nI 1";
-    let answered = "I 0\nI 0\nD 1 0 0\nD 0 1 1\nI 0\nI 1\nD 0 1 1";
-    let shared = "I 0\nI 0\nD 1 0 0\nD 0 1 1\nI 0\nI 1\nD 0 1 1\nD 1 0 1";
-    let written = "I 0\nI 0\nD 1 0 0\nD 0 1 1\nI 0\nI 1\nD 0 1 1\nI 0";
-    // The home leaves other statements to be done when the owner has answered.
-    let rest = (
-        "SetTag(ReadOnly)\n    WakeUp\n    SetState(Home_RO{})",
-        "WakeUp\n    SetTag(ReadOnly)\n    SetState(Home_RO{})",
-    );
-    breaks(&rt, alloc, own, rest, COPY_KEPT, asked, "34567")?;
-    // The owner answers as one that gives its block back.
-    let put = ("Send(src, PUT_RO)", "Send(src, PUT)");
-    breaks(&rt, alloc, own, put, COPY_KEPT, answered, "23467")?;
-    // The owner keeps ReadWrite, and writes its copy.
-    let tag = (
-        "SetTag(ReadOnly)\n    Send(src, PUT_RO)",
-        "Send(src, PUT_RO)",
-    );
-    breaks(&rt, alloc, own, tag, COPY_KEPT, written, "23457")?;
-    // The home forgets that the owner has a copy.
-    let forgotten = ("sharers := One(owner)", "sharers := Empty");
-    breaks(&rt, alloc, own, forgotten, COPY_KEPT, shared, "23467")?;
-    // The home keeps its stale copy.
-    let stale = ("On PUT_RO()\n  Begin\n    Install", "On PUT_RO()\n  Begin");
-    breaks(&rt, alloc, own, stale, COPY_KEPT, shared, "23457")
+    all_break(&rt, alloc, Directory::StacheD, &STACHE_D_EDITS)
 }
 
 /// Three readers ask, and two of them have a copy when the request of the third has come.
@@ -217,21 +310,6 @@ D 1 2 0
 D 2 1 1
 I 3
 D 1 3 0";
-
-#[test]
-fn directories_break_stache_l(rt: HostRuntime) -> Result<(), Fail> {
-    let alloc = rt.alloc();
-    let own = Directory::StacheL;
-    // The home lets a third sharer in.
-    let third = ("Count(sharers) = 2", "Count(sharers) = 3");
-    breaks(&rt, alloc, own, third, READERS, THREE_ASK, "23467")?;
-    // The home invalidates the copy of the sharer that it keeps.
-    let wrong = ("Send(x, INV)", "SendAll(sharers, INV)");
-    breaks(&rt, alloc, own, wrong, READERS, THREE_ASK, "23467")?;
-    // The home waits for two answers where it asked for one.
-    let two = ("acks := 1", "acks := 2");
-    breaks(&rt, alloc, own, two, READERS, THREE_ASK, "23467")
-}
 
 /// How Stache_L takes a copy from one of two sharers.
 const BY_X: &str = "Local x Node
@@ -255,16 +333,51 @@ const BY_Y: &str = "Local y Node
       acks := 1
       Send(y, INV)";
 
-#[test]
-fn continuations_break_stache_l(rt: HostRuntime) -> Result<(), Fail> {
-    let alloc = rt.alloc();
-    let own = Directory::StacheL;
+const STACHE_L_EDITS: [Edit; 5] = [
+    // The home lets a third sharer in.
+    Edit {
+        old: "Count(sharers) = 2",
+        new: "Count(sharers) = 3",
+        text: READERS,
+        events: THREE_ASK,
+        held: "23467",
+    },
+    // The home invalidates the copy of the sharer that it keeps.
+    Edit {
+        old: "Send(x, INV)",
+        new: "SendAll(sharers, INV)",
+        text: READERS,
+        events: THREE_ASK,
+        held: "23467",
+    },
+    // The home waits for two answers where it asked for one.
+    Edit {
+        old: "acks := 1",
+        new: "acks := 2",
+        text: READERS,
+        events: THREE_ASK,
+        held: "23467",
+    },
     // The home leaves other statements to be done when the answer has come.
-    let rest = (
-        "End\n    sharers := With(sharers, src)\n    Send(src, DATA_RO)",
-        "End\n    Send(src, DATA_RO)\n    sharers := With(sharers, src)",
-    );
-    breaks(&rt, alloc, own, rest, READERS, THREE_ASK, "367")?;
+    Edit {
+        old: "End\n    sharers := With(sharers, src)\n    Send(src, DATA_RO)",
+        new: "End\n    Send(src, DATA_RO)\n    sharers := With(sharers, src)",
+        text: READERS,
+        events: THREE_ASK,
+        held: "367",
+    },
     // The chosen node stands in a variable of another name.
-    breaks(&rt, alloc, own, (BY_X, BY_Y), READERS, THREE_ASK, "34567")
+    Edit {
+        old: BY_X,
+        new: BY_Y,
+        text: READERS,
+        events: THREE_ASK,
+        held: "34567",
+    },
+];
+
+#[test]
+fn each_part_breaks_under_stache_l(rt: HostRuntime) -> Result<(), Fail> {
+    let alloc = rt.alloc();
+    all_break(&rt, alloc, Directory::StacheL, &STACHE_L_EDITS)
 }

@@ -1,5 +1,5 @@
+use crate::broken::is_another;
 use crate::reading::{make, setup, verdict};
-use coherence_check::Broken;
 use driven_rows::{
     A_READER_WRITES, A_READER_WRITES_EVENTS, COPY_KEPT, COPY_KEPT_EVENTS, DEFERRED,
     DEFERRED_EVENTS, LAPSED, LAPSED_EVENTS, TWO_RESTS, TWO_RESTS_EVENTS, WRITERS, WRITERS_EVENTS,
@@ -13,7 +13,7 @@ use std::alloc;
 use std::process::Abort;
 use std::test::Fail;
 use teapot_tree::Checked;
-use tw_base::{BlockId, Listed, Memory};
+use tw_base::{Listed, Memory};
 
 // The protocol by its name.
 fn protocol(alloc: alloc::Global, directory: Directory) -> Result<Checked, Memory> {
@@ -36,28 +36,34 @@ fn stays_coherent(
     let setup = setup(alloc, text, protocol(alloc, directory)?)?;
     let mut g = Global::new(alloc, &setup)?;
     let mut entries = Listed::new(alloc);
-    assert_eq!(rt; verdict(directory, &g), Ok(()));
+    assert!(rt; verdict(directory, &g).is_ok());
     for row in events.split('\n') {
         if row.starts_with("W") {
             continue;
         }
         let (asked, due) = row.split_once(": ").unwrap_or((row, "made"));
         let made = make(alloc, &mut g, asked, &mut entries)?;
-        assert_eq!(rt; made.as_str(), due, "at {row}");
-        assert_eq!(rt; verdict(directory, &g), Ok(()), "after {row}");
+        assert!(rt; made.as_str() == due, "at {row}");
+        assert!(rt; verdict(directory, &g).is_ok(), "after {row}");
     }
-    assert_eq!(rt; entries.len(), due);
+    assert!(rt; entries.len() == due);
     Ok(())
 }
+
+const RUNS: [(&str, &str, usize); 4] = [
+    (WRITERS, WRITERS_EVENTS, 26),
+    (DEFERRED, DEFERRED_EVENTS, 20),
+    (LAPSED, LAPSED_EVENTS, 8),
+    (TWO_RESTS, TWO_RESTS_EVENTS, 22),
+];
 
 #[test]
 fn runs_under_stache_are_coherent(rt: HostRuntime) -> Result<(), Fail> {
     let alloc = rt.alloc();
-    let own = Directory::Stache;
-    stays_coherent(&rt, alloc, own, WRITERS, WRITERS_EVENTS, 26)?;
-    stays_coherent(&rt, alloc, own, DEFERRED, DEFERRED_EVENTS, 20)?;
-    stays_coherent(&rt, alloc, own, LAPSED, LAPSED_EVENTS, 8)?;
-    stays_coherent(&rt, alloc, own, TWO_RESTS, TWO_RESTS_EVENTS, 22)
+    for (text, events, due) in RUNS {
+        stays_coherent(&rt, alloc, Directory::Stache, text, events, due)?;
+    }
+    Ok(())
 }
 
 #[test]
@@ -74,15 +80,6 @@ fn a_run_under_stache_l_is_coherent(rt: HostRuntime) -> Result<(), Fail> {
     stays_coherent(&rt, alloc, own, A_READER_WRITES, A_READER_WRITES_EVENTS, 25)
 }
 
-// Under another protocol than its own a start breaks part 1.
-fn is_another(rt: &impl Abort, own: Directory, g: &Global) {
-    let broken = Broken {
-        block: BlockId::new(0).unwrap(),
-        part: 1,
-    };
-    assert_eq!(rt; verdict(own, g), Err(broken));
-}
-
 #[test]
 fn each_protocol_is_decided_alone(rt: HostRuntime) -> Result<(), Fail> {
     let alloc = rt.alloc();
@@ -90,6 +87,6 @@ fn each_protocol_is_decided_alone(rt: HostRuntime) -> Result<(), Fail> {
     let g = Global::new(alloc, &setup)?;
     is_another(&rt, Directory::Stache, &g);
     is_another(&rt, Directory::StacheD, &g);
-    assert_eq!(rt; verdict(Directory::StacheL, &g), Ok(()));
+    assert!(rt; verdict(Directory::StacheL, &g).is_ok());
     Ok(())
 }
